@@ -1,0 +1,17 @@
+use mathlib.Core.Path.{_≡_}
+use native.Mathlib.Omega.{arith}
+use borrow.Author.Needs.{needs}
+use lib.ListN.{length}
+use Rattle.distance.specs.Distances.{squaredGap, mergeCost}
+use Rattle.distance.proofs.merge_cost.Statement.{statement}
+use Rattle.distance.proofs.merge_cost.Tie as tie
+
+sq-euclidean-requires : tie.Need-sq-euclidean-requires
+sq-euclidean-requires c κs = let l : length (c .before .before .before .before .args .a .mean) ≡ 8 = search needs in let m : length (c .before .before .before .before .args .b .mean) ≡ 8 = search needs in omega arith
+
+returns : tie.Need-returns
+unfolding mergeCost squaredGap
+returns c = rw (c .increase .ensures, c .before .sq-euclidean .ensures)
+
+pub merge-cost-spec : {M : Type 1} → statement M
+merge-cost-spec = tie.close (tie.spec (λ c. search needs) (λ c. search needs) sq-euclidean-requires (λ c κs. search needs) returns)

@@ -1,0 +1,2 @@
+-- The six distances and the cost of a merge.
+pub mod Distances

@@ -1,0 +1,6 @@
+-- Summaries: their form, push and merge, and what those keep.
+pub mod Summaries
+pub mod Steps
+pub mod Weights
+pub mod Shape
+pub mod Readings

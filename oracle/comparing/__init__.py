@@ -1,0 +1,1 @@
+"""Feeds two speakers of the protocol the same cases and compares every number."""

@@ -3,7 +3,8 @@ use mathlib.Core.Path.{_≡_, refl, sym, ap, ap₂, _∙_, subst}
 use mathlib.Core.Bool.{Bool, true, false, true≢false, _&&_, _||_}
 use mathlib.Core.Logic.{_⊎_, inl, inr}
 use Prim.Native.Nat.{ℕ, _*_, _≤_, _<_, zero-le}
-use native.Mathlib.Nat.{le-antisymm, mul-one, mul-comm, mul-assoc, mul-right-comm, mul-pos, le-of-lt, le-of-eq, eq-or-lt-of-le, lt-of-mul-lt-mul-right, mul-lt-mul-of-pos-right, eq-of-mul-eq-mul-right}
+use native.Mathlib.Nat.{le-antisymm, mul-one, mul-comm, mul-assoc, mul-right-comm, mul-pos, le-of-lt, le-of-eq, eq-or-lt-of-le}
+use native.Mathlib.Nat.{lt-of-mul-lt-mul-right, mul-lt-mul-of-pos-right, eq-of-mul-eq-mul-right}
 use native.Mathlib.Omega.{arith}
 use lib.IntN.{pos}
 use lib.Dec.{T, ltb, leb, eqb, le→leb, leb→le, lt→ltb, ltb→lt, eqb→eq}
@@ -67,7 +68,10 @@ pub eq-whole : (a b : ℕ) → a ≤ most → b ≤ most → eq (whole a) (whole
 eq-whole a b h k = eq-values (whole a) (whole b) a b (whole-value a h) (whole-value b k)
 
 lt-or-eq : (a b : ℕ) → (ltb a b || eqb a b) ≡ leb a b
-lt-or-eq a b = same-test (ltb a b || eqb a b) (leb a b) (λ t. le→leb a b (first (ltb a b) (eqb a b) t (ltb→lt a b) (eqb→eq a b))) (λ t. second (eq-or-lt-of-le (leb→le a b t)))
+lt-or-eq a b =
+    same-test (ltb a b || eqb a b) (leb a b)
+    (λ t. le→leb a b (first (ltb a b) (eqb a b) t (ltb→lt a b) (eqb→eq a b)))
+    (λ t. second (eq-or-lt-of-le (leb→le a b t)))
   where
     first : (p q : Bool) → T (p || q) → (T p → a < b) → (T q → a ≡ b) → a ≤ b
     first true q t f g = le-of-lt (f tt)
@@ -105,15 +109,20 @@ cancel x y n d e h p q =
 eq-value : (x y : Float) (n : ℕ) → 0 < n → HasValue x false n 1 → T (eq x y) → HasValue y false n 1
 unfolding eq
 eq-value (fin true m e) y n h p t = absurd (true≢false (p .0))
-eq-value (fin false m e) (fin true k d) n h p t = absurd (not-both (m * up e * down d) above (eqb→eq (m * up e * down d) 0 (and-r (eqb (m * up e * down d) (k * up d * down e)) (eqb (m * up e * down d) 0) t)))
+eq-value (fin false m e) (fin true k d) n h p t =
+    absurd (not-both (m * up e * down d) above
+    (eqb→eq (m * up e * down d) 0 (and-r (eqb (m * up e * down d) (k * up d * down e)) (eqb (m * up e * down d) 0) t)))
   where
     above : 0 < m * up e * down d
     above = subst (λ (z : ℕ). 0 < z) (sym (left (m * up e) n (down e) (down d) (p .1))) (mul-pos h (mul-pos (down-pos e) (down-pos d)))
 
     not-both : (a : ℕ) → 0 < a → a ≡ 0 → ⊥
     not-both a h e = omega arith
-eq-value (fin false m e) (fin false k d) n h p t =
-    (refl, cancel (m * up e) (k * up d) n (down e) (down d) (down-pos e) (p .1) (eqb→eq (m * up e * down d) (k * up d * down e) (and-l (eqb (m * up e * down d) (k * up d * down e)) true t)))
+eq-value (fin false m e) (fin false k d) n h p t = (
+  refl,
+  cancel (m * up e) (k * up d) n (down e) (down d) (down-pos e) (p .1)
+      (eqb→eq (m * up e * down d) (k * up d * down e) (and-l (eqb (m * up e * down d) (k * up d * down e)) true t)),
+)
 
 pub eq-is : (n : ℕ) (x : Float) → 0 < n → n ≤ most → T (fits binary64 x) → T (eq (whole n) x) → x ≡ whole n
 eq-is n x h k f t = whole-unique binary64 x (whole n) false n f (ofInt-fits binary64 (pos n)) (eq-value (whole n) x n h (whole-value n k) t) (whole-value n k)

@@ -48,7 +48,10 @@ sameValue a b = eqb (toBits binary64 a) (toBits binary64 b)
 -- floats of binary64 with the same bits are equal
 pub same-equal : (a b : Float) → T (fits binary64 a) → T (fits binary64 b) → sameValue a b ≡ true → a ≡ b
 unfolding sameValue
-same-equal a b f g h = sym (ofBits-toBits binary64 a f) ∙ ap (ofBits binary64) (eqb-true (toBits binary64 a) (toBits binary64 b) h) ∙ ofBits-toBits binary64 b g
+same-equal a b f g h =
+    sym (ofBits-toBits binary64 a f)
+    ∙ ap (ofBits binary64) (eqb-true (toBits binary64 a) (toBits binary64 b) h)
+    ∙ ofBits-toBits binary64 b g
 
 pub equal-same : (a b : Float) → a ≡ b → sameValue a b ≡ true
 unfolding sameValue

@@ -32,7 +32,8 @@ pub minus-zero-differs : neg (whole 0) ≡ whole 0 → ⊥
 unfolding ofInt neg sign
 minus-zero-differs e = true≢false (ap sign e)
 
-zero-sum : (A B c b : ℕ) → A ≡ 0 → 0 < c → B ≡ b * c → cond (ltb A B) (round binary64 false (B - A) c) (round binary64 (ltb B A) (A - B) c) ≡ round binary64 false b 1
+zero-sum : (A B c b : ℕ) → A ≡ 0 → 0 < c → B ≡ b * c
+    → cond (ltb A B) (round binary64 false (B - A) c) (round binary64 (ltb B A) (A - B) c) ≡ round binary64 false b 1
 zero-sum A B c b z p e = go (ltb A B) (ltb B A) (ltb→lt B A) (nltb→le A B)
   where
     no : (x y : ℕ) → x < y → y ≡ 0 → ⊥
@@ -46,7 +47,9 @@ zero-sum A B c b z p e = go (ltb A B) (ltb B A) (ltb→lt B A) (nltb→le A B)
 past-zero : (y : Float) (b : ℕ) → HasValue y false b 1 → fin true 0 (pos 0) ⊕ y ≡ whole b
 unfolding add ofInt
 past-zero (fin true n d) b q = absurd (true≢false (q .0))
-past-zero (fin false n d) b q = zero-sum (0 * down d) (n * up d * 1) (1 * down d) b (zero-mul (down d)) (mul-pos (zero-lt-suc 0) (down-pos d)) (q .1 ∙ ap (λ (z : ℕ). b * z) (sym (one-mul (down d))))
+past-zero (fin false n d) b q =
+    zero-sum (0 * down d) (n * up d * 1) (1 * down d) b (zero-mul (down d)) (mul-pos (zero-lt-suc 0) (down-pos d))
+    (q .1 ∙ ap (λ (z : ℕ). b * z) (sym (one-mul (down d))))
 
 pub minus-zero : neg (whole 0) ≡ fin true 0 (pos 0)
 unfolding ofInt neg
@@ -64,5 +67,7 @@ pub eq-zero : (x : Float) → T (fits binary64 x) → T (eq (whole 0) x) → (x 
 unfolding ofInt eq neg
 eq-zero nan f t = absurd t
 eq-zero (inf s) f t = absurd t
-eq-zero (fin false m e) f t = inl (whole-unique binary64 (fin false m e) (fin false 0 (pos 0)) false 0 f (unfold fits in tt) (eq-zero-value false m e t) (refl, refl))
-eq-zero (fin true m e) f t = inr (whole-unique binary64 (fin true m e) (fin true 0 (pos 0)) true 0 f (unfold fits in tt) (eq-zero-value true m e t) (refl, refl))
+eq-zero (fin false m e) f t =
+    inl (whole-unique binary64 (fin false m e) (fin false 0 (pos 0)) false 0 f (unfold fits in tt) (eq-zero-value false m e t) (refl, refl))
+eq-zero (fin true m e) f t =
+    inr (whole-unique binary64 (fin true m e) (fin true 0 (pos 0)) true 0 f (unfold fits in tt) (eq-zero-value true m e t) (refl, refl))

@@ -9,7 +9,8 @@ use Rattle.feature.specs.declared.Feature.{Feature}
 use Rattle.feature.specs.declared.Feature.the-variants.{Spherical, Diagonal}
 use Rattle.feature.specs.declared.Summary.{Summary}
 use Rattle.distance.specs.declared.Distance.{Distance}
-use Rattle.distance.specs.declared.Distance.the-variants.{CentroidEuclidean, CentroidManhattan, AverageIntercluster, AverageIntracluster, VarianceIncrease, Radius}
+use Rattle.distance.specs.declared.Distance.the-variants.{CentroidEuclidean, CentroidManhattan, AverageIntercluster}
+use Rattle.distance.specs.declared.Distance.the-variants.{AverageIntracluster, VarianceIncrease, Radius}
 
 -- the squared Euclidean sum over the first n channels
 unfoldable pub squaredGap : ℕ → List Float → List Float → Float

@@ -2,5 +2,6 @@
 pub mod Summaries
 pub mod Steps
 pub mod Weights
+pub mod Agree
 pub mod Shape
 pub mod Readings

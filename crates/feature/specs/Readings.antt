@@ -11,7 +11,7 @@ use Rattle.feature.specs.declared.Summary.{Summary}
 use Rattle.feature.specs.declared.Feature.{Feature}
 use Rattle.feature.specs.declared.Feature.the-variants.{Spherical, Diagonal}
 
--- the summary of rows of one channel
+-- the summary of rows of one channel, the last row first
 abbrev of : Feature → List Float → Summary
 of f [] = blank
 of f (x ∷ xs) = pushed f 1 (of f xs) (x ∷ [])

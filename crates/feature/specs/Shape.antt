@@ -4,7 +4,7 @@ use mathlib.Core.Bool.{Bool, true, false, cond}
 use mathlib.Core.List.{List}
 use Prim.Native.Nat.{ℕ, zero, suc, _≤_, _<_}
 use native.Mathlib.Omega.{arith}
-use lib.ListN.{length, length-set, replicate}
+use lib.ListN.{length, length-set, replicate, getD-replicate}
 use lib.Seq.{getD-set-other}
 use lib.Ieee.{Float, nan, le}
 use Rattle.binary64.specs.Operators.{f0}
@@ -28,15 +28,7 @@ pub record Shaped (f : Feature) (n : ℕ) (s : Summary) : Type 0 where
 -- ---- lists
 
 zero-at : (k : ℕ) → k < 8 → at (replicate 8 f0) k ≡ f0
-zero-at zero h = refl
-zero-at (suc zero) h = refl
-zero-at (suc (suc zero)) h = refl
-zero-at (suc (suc (suc zero))) h = refl
-zero-at (suc (suc (suc (suc zero)))) h = refl
-zero-at (suc (suc (suc (suc (suc zero))))) h = refl
-zero-at (suc (suc (suc (suc (suc (suc zero)))))) h = refl
-zero-at (suc (suc (suc (suc (suc (suc (suc zero))))))) h = refl
-zero-at (suc (suc (suc (suc (suc (suc (suc (suc k)))))))) h = absurd (omega arith)
+zero-at k h = getD-replicate 8 k f0 nan h
 
 eight-upTo : (r : ℕ → Float) (n : ℕ) (l : List Float) → Eight l n → Eight (upTo r n l) n
 eight-upTo r n l e = record { long = length-upTo r n l ∙ e .long; zeros = λ k p q. upTo-past r n l k p ∙ e .zeros k p q }
@@ -64,7 +56,10 @@ module _ (f : Feature) (n : ℕ) where
   joined-shaped : (s o : Summary) → Shaped f n s → Shaped f n (joined f n s o)
   unfolding joined
   joined-shaped s o h =
-      record { means = eight-upTo _ n (s .mean) (h .means); deviations = eight-deviated f n _ _ _ _ (eight-upTo _ (slotsOf f n) (s .deviation) (h .deviations)) }
+      record {
+        means = eight-upTo _ n (s .mean) (h .means);
+        deviations = eight-deviated f n _ _ _ _ (eight-upTo _ (slotsOf f n) (s .deviation) (h .deviations));
+      }
 
   pub merged-shaped : (s o : Summary) → Shaped f n s → Shaped f n o → Shaped f n (merged f n s o)
   unfolding merged

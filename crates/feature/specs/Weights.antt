@@ -37,7 +37,8 @@ module _ (f : Feature) (n : ℕ) where
   unfolding merged
   merged-copy s o b h p q = rw (q, le-zero (suc b) h, some b, p, le-zero 0 (omega arith))
 
-  pub merged-joined : (s o : Summary) (a b : ℕ) → suc a ≤ most → suc b ≤ most → s .weight ≡ whole (suc a) → o .weight ≡ whole (suc b) → merged f n s o ≡ joined f n s o
+  pub merged-joined : (s o : Summary) (a b : ℕ) → suc a ≤ most → suc b ≤ most
+      → s .weight ≡ whole (suc a) → o .weight ≡ whole (suc b) → merged f n s o ≡ joined f n s o
   unfolding merged
   merged-joined s o a b h k p q = rw (q, le-zero (suc b) k, some b, p, le-zero (suc a) h, some a)
 

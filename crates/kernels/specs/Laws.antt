@@ -80,4 +80,6 @@ min-end i n h = omega arith
 pub sum-copied : (r : Float → Float → Float) (n : ℕ) (a b x y : List Float) → n ≤ 8 → x ≡ upTo (at a) n (replicate 8 f0) → y ≡ upTo (at b) n (replicate 8 f0)
     → sumTo (λ i. r (at x i) (at y i)) n ≡ sumTo (λ i. r (at a i) (at b i)) n
 sum-copied r n a b x y h p q =
-    sum-same _ _ n λ k l. ap₂ r (ap (λ z. at z k) p ∙ upTo-below (at a) n (replicate 8 f0) k h l) (ap (λ z. at z k) q ∙ upTo-below (at b) n (replicate 8 f0) k h l)
+    sum-same _ _ n λ k l.
+    ap₂ r (ap (λ z. at z k) p ∙ upTo-below (at a) n (replicate 8 f0) k h l)
+    (ap (λ z. at z k) q ∙ upTo-below (at b) n (replicate 8 f0) k h l)

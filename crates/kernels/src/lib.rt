@@ -6,7 +6,7 @@ ghost use Rattle.binary64.specs.Operators.{f0};
 ghost use Rattle.kernels.specs.Channels.{at, upTo, sumTo, squareAt, sizeAt};
 
 // The first dim numbers of a slice, in an array of their own.
-fn copied(dim: usize, a: &[f64]) -> [f64; 8]
+pub fn copied(dim: usize, a: &[f64]) -> [f64; 8]
     requires { ⌜ (dim ≤ 8) × (dim ≤ length (now a)) ⌝ }
     ensures { λ r. ⌜ r ≡ upTo (at (now (a .entry))) dim (replicate 8 f0) ⌝ }
 {

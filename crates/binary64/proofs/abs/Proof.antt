@@ -1,4 +1,4 @@
--- `binary64::abs` meets its contract, by cases on the float. Of the floats that `==` says equal 0.0 only -0.0 and 0.0 fit, and a NaN passes neither test. Assumes nothing.
+-- `binary64::abs` meets its contract, by cases on the float: what `==` takes for 0.0 is −0.0 or 0.0, and a NaN passes neither test.
 use mathlib.Core.Path.{_≡_, refl}
 use Prim.Native.Nat.{ℕ, zero, suc, _+_, _*_, _≤_, _<_}
 use native.Mathlib.Nat.{zero-mul}
@@ -39,8 +39,11 @@ unfolding eq
 nothing nan h f = absurd (false≢true h)
 nothing (inf s) h f = absurd (false≢true h)
 nothing (fin s m e) h f =
-    whole-unique binary64 zer (fin false m e) false 0 (unfold fits in tt) (re-sign s false m e f) (refl, refl)
-    (refl, eqb→eq (m * up e * 1) (0 * down e) (and-l (eqb (m * up e * 1) (0 * down e)) (Bool·beq s false || eqb (m * up e * 1) 0) (passes (level s (m * up e * 1) false (0 * down e)) h)))
+    whole-unique binary64 zer (fin false m e) false 0 (unfold fits in tt) (re-sign s false m e f) (refl, refl) (
+      refl,
+      eqb→eq (m * up e * 1) (0 * down e)
+          (and-l (eqb (m * up e * 1) (0 * down e)) (Bool·beq s false || eqb (m * up e * 1) 0) (passes (level s (m * up e * 1) false (0 * down e)) h)),
+    )
 
 both : (p q : Bool) → p ≡ true → q ≡ true → (p && q) ≡ false → ⊥
 both true true a b n = true≢false n

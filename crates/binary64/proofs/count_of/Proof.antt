@@ -9,6 +9,9 @@ use Rattle.binary64.specs.Counts.{isCount, told, countOf}
 use Rattle.binary64.proofs.count_of.Statement.{statement}
 use Rattle.binary64.proofs.count_of.Tie as tie
 
+abbrev tests : tie.After-row-known → tie.Then2
+tests c = c .before .before
+
 inside : (c : tie.Then2) → Ranged (c .before .before .args .w)
 inside c = ranged (c .before .before .args .w) (c .before .if1 .taken) (c .if2 .taken)
 
@@ -19,15 +22,17 @@ int-to-float-if3 : tie.Need-int-to-float-if3
 unfolding inFloat
 int-to-float-if3 c =
     let n = c .before .truncating-f64-to-u64 .result in
-    le→leb n most (subst (λ (k : ℕ). k ≤ most) (sym (c .before .truncating-f64-to-u64 .ensures)) (inside (c .before .before) .few))
+    le→leb n most (subst (λ (k : ℕ). k ≤ most) (sym (c .before .truncating-f64-to-u64 .ensures)) (inside (tests c) .few))
 
 returns : tie.Need-returns
 unfolding countOf isCount told
-returns c = rw (c .before .before .before .before .if1 .taken, c .before .before .before .if2 .taken, ← c .before .before .truncating-f64-to-u64 .ensures, c .if3 .taken)
+returns c =
+    rw (tests (c .before) .before .if1 .taken, tests (c .before) .if2 .taken, ← c .before .before .truncating-f64-to-u64 .ensures, c .if3 .taken)
 
 returns-2 : tie.Need-returns-2
 unfolding countOf isCount told
-returns-2 c = rw (c .before .before .before .before .if1 .taken, c .before .before .before .if2 .taken, ← c .before .before .truncating-f64-to-u64 .ensures, c .if3 .left)
+returns-2 c =
+    rw (tests (c .before) .before .if1 .taken, tests (c .before) .if2 .taken, ← c .before .before .truncating-f64-to-u64 .ensures, c .if3 .left)
 
 returns-3 : tie.Need-returns-3
 unfolding countOf isCount told

@@ -1,4 +1,4 @@
--- `binary64::is_finite` meets its contract, by cases on the float: 1.0 / 0.0 is the infinity, and every finite value lies between it and its negative. Assumes nothing.
+-- `binary64::is_finite` meets its contract, by cases on the float: 1.0 / 0.0 is infinity, and a finite value lies between it and its negative.
 use mathlib.Core.Path.{_≡_, refl}
 use mathlib.Core.Bool.{true, false, true≢false, false≢true}
 use lib.Ieee.{Float, nan, inf, fin, lt, neg, div, ofBits}

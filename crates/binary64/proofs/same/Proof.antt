@@ -1,4 +1,4 @@
--- `binary64::same` meets its contract.
+-- `binary64::same` meets its contract: `bits_of` gives the bits that `sameValue` compares.
 use borrow.Author.Needs.{needs}
 use Rattle.binary64.specs.Values.{sameValue}
 use Rattle.binary64.proofs.same.Statement.{statement}

@@ -1,3 +1,4 @@
+-- `distance::gap` meets its contract: the last arm takes every distance but Manhattan, and all of those go by squares.
 use Prim.Native.Nat.{ℕ}
 use mathlib.Core.Path.{_≡_, refl, _∙_}
 use native.Mathlib.Omega.{arith}
@@ -9,7 +10,8 @@ use lib.Ieee.{Float}
 use types.Run.{OneOf}
 use denote.Enum.Declared.{tagOf}
 use Rattle.distance.specs.declared.Distance.{Distance}
-use Rattle.distance.specs.declared.Distance.the-variants.{CentroidEuclidean, CentroidManhattan, AverageIntercluster, AverageIntracluster, VarianceIncrease, Radius}
+use Rattle.distance.specs.declared.Distance.the-variants.{CentroidEuclidean, CentroidManhattan, AverageIntercluster}
+use Rattle.distance.specs.declared.Distance.the-variants.{AverageIntracluster, VarianceIncrease, Radius}
 use Rattle.distance.proofs.Distance.{the-type}
 use Rattle.distance.proofs.gap.Statement.{statement}
 use Rattle.distance.proofs.gap.Tie as tie
@@ -18,7 +20,8 @@ use Rattle.distance.proofs.gap.Tie as tie
 rest : (k : Distance) (n : ℕ) (a b : List Float) → OneOf (0 ∷ 2 ∷ 3 ∷ 4 ∷ 5 ∷ []) (tagOf the-type k) → squaredGap n a b ≡ gapOf k n a b
 unfolding gapOf
 rest CentroidEuclidean n a b h = refl
-rest CentroidManhattan n a b h = absurd (⊎-elim (λ z. omega arith) (⊎-elim (λ z. omega arith) (⊎-elim (λ z. omega arith) (⊎-elim (λ z. omega arith) (λ z. omega arith)))) h)
+rest CentroidManhattan n a b h =
+    absurd (⊎-elim (λ z. omega arith) (⊎-elim (λ z. omega arith) (⊎-elim (λ z. omega arith) (⊎-elim (λ z. omega arith) (λ z. omega arith)))) h)
 rest AverageIntercluster n a b h = refl
 rest AverageIntracluster n a b h = refl
 rest VarianceIncrease n a b h = refl

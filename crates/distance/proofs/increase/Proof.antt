@@ -1,3 +1,4 @@
+-- `distance::increase` meets its contract: its test is that of `increaseOf`.
 use Rattle.distance.specs.Distances.{increaseOf}
 use Rattle.distance.proofs.increase.Statement.{statement}
 use Rattle.distance.proofs.increase.Tie as tie

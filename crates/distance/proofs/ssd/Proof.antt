@@ -1,3 +1,4 @@
+-- `distance::ssd` meets its contract, by cases on the feature.
 use borrow.Author.Needs.{needs}
 use Rattle.distance.specs.Distances.{ssdOf}
 use Rattle.distance.proofs.ssd.Statement.{statement}

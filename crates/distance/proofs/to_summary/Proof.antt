@@ -1,3 +1,4 @@
+-- `distance::to_summary` meets its contract, by cases on the distance; each zero answer has the definition's own test.
 use borrow.Author.Needs.{needs}
 use Rattle.distance.specs.Distances.{toSummary}
 use Rattle.distance.proofs.to_summary.Statement.{statement}
@@ -44,4 +45,7 @@ unfolding toSummary
 returns-10 c = rw (c .before .enum-told6 .given .1, c .if4 .left)
 
 pub to-summary-spec : {M : Type 1} → statement M
-to-summary-spec = tie.close (tie.spec (λ c. search needs) (λ c. search needs) (λ c. search needs) returns (λ c. search needs) (λ c. search needs) (λ c κs. search needs) (λ c. search needs) returns-2 returns-3 returns-4 returns-5 returns-6 returns-7 returns-8 returns-9 returns-10)
+to-summary-spec =
+    tie.close
+    (tie.spec (λ c. search needs) (λ c. search needs) (λ c. search needs) returns (λ c. search needs) (λ c. search needs) (λ c κs. search needs)
+    (λ c. search needs) returns-2 returns-3 returns-4 returns-5 returns-6 returns-7 returns-8 returns-9 returns-10)

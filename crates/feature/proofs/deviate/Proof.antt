@@ -1,3 +1,4 @@
+-- `feature::deviate` meets its contract: each feature's arm is that feature's case of `deviated`.
 use borrow.Author.Needs.{needs}
 use Rattle.feature.specs.Steps.{deviated}
 use Rattle.feature.proofs.deviate.Statement.{statement}
@@ -12,4 +13,7 @@ unfolding deviated
 returns-2 c = rw (c .before .enum-told2 .given .1, c .added .ensures)
 
 pub deviate-spec : {M : Type 1} → statement M
-deviate-spec = tie.close (tie.spec (λ c. search needs) (λ c. search needs) (λ c κs. search needs) (λ c. search needs) (λ c. search needs) (λ c. search needs) (λ c κs. search needs) returns returns-2)
+deviate-spec =
+    tie.close
+    (tie.spec (λ c. search needs) (λ c. search needs) (λ c κs. search needs) (λ c. search needs) (λ c. search needs) (λ c. search needs)
+    (λ c κs. search needs) returns returns-2)

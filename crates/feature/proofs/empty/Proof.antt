@@ -1,3 +1,4 @@
+-- `feature::empty` meets its contract: its 0 and its two repeats are those of `blank`.
 use mathlib.Core.Path.{refl}
 use lib.Ieee.{ofBits}
 use Rattle.feature.specs.Summaries.{blank}

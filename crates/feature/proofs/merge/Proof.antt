@@ -1,3 +1,4 @@
+-- `feature::merge` meets its contract: its two tests are those of `merged`.
 use borrow.Author.Needs.{needs}
 use Rattle.feature.specs.Steps.{merged}
 use Rattle.feature.proofs.merge.Statement.{statement}

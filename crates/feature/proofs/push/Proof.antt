@@ -1,3 +1,4 @@
+-- `feature::push` meets its contract: its two calls give the means and the deviations of `pushed`.
 use borrow.Author.Needs.{needs}
 use Rattle.feature.specs.Steps.{pushed}
 use Rattle.feature.proofs.push.Statement.{statement}

@@ -1,3 +1,4 @@
+-- `feature::slots` meets its contract, by cases on the feature.
 use borrow.Author.Needs.{needs}
 use Rattle.feature.specs.Summaries.{slotsOf}
 use Rattle.feature.proofs.slots.Statement.{statement}

@@ -1,0 +1,238 @@
+-- The public calls: which refusal each gives, and what it leaves of head, answer and every lent slice.
+use Prim.Native.Nat.{ℕ, _+_, _*_, _/_, _%_}
+use mathlib.Core.Bool.{Bool, true, false, _||_}
+use mathlib.Core.List.{List, [], _∷_, _++_, map}
+use lib.ListN.{length, drop, replicate}
+use lib.Dec.{leb, eqb}
+use lib.Ieee.{Float}
+use Rattle.binary64.specs.Operators.{f0}
+use Rattle.binary64.specs.Whole.{most}
+use Rattle.feature.specs.Summaries.{slotsOf}
+use Rattle.head.specs.Heads.{settingsOf, newCounters, withCounters}
+use Rattle.head.specs.Limits.{allowed}
+use Rattle.head.specs.Sizes.{nodeCap, slotWidth, floatsNeeded, linksNeeded, scratchFloatsNeeded, scratchLinksNeeded}
+use Rattle.head.specs.declared.Head.{Head}
+use Rattle.head.specs.declared.Settings.{Settings}
+use Rattle.head.specs.declared.refusal.Refusal.{Refusal}
+use Rattle.head.specs.declared.refusal.Refusal.the-variants as R
+use Rattle.head.specs.declared.refusal.Answer.{Answer}
+use Rattle.head.specs.declared.refusal.Answer.the-variants.{Accepted, Refused}
+use Rattle.rules.specs.Lists.{joined, rowsOf}
+use Rattle.rules.specs.Tree.{Tree, fresh}
+use Rattle.rules.specs.Rebuild.{inserted, insertedAll}
+use Rattle.rules.specs.Refit.{route, refitted, spreadOf}
+use Rattle.rules.specs.Check.{checked, totalOf}
+use Rattle.rules.specs.Slices.{treeOf, countersOf, floatsOf, linksOf}
+use Rattle.rules.specs.declared.Verdict.{Verdict}
+use Rattle.rules.specs.declared.Verdict.the-variants.{Passes, Fails}
+use Rattle.rules.specs.declared.Places.{Places}
+
+-- ---- the refusals that apply, in order of checking; the first is given
+
+unfoldable pub unless : Bool → Refusal → List Refusal
+unless true r = []
+unless false r = r ∷ []
+
+unfoldable pub answerOf : List Refusal → Answer
+answerOf [] = Accepted
+answerOf (r ∷ rs) = Refused r
+
+-- 1: a size, choice or threshold in the head is outside its limits
+unfoldable pub settingsRefusal : Head → List Refusal
+settingsRefusal h = unless (allowed h) R.Settings
+
+-- 2: a lent buffer of n is shorter than needed
+unfoldable pub roomRefusal : ℕ → ℕ → List Refusal
+roomRefusal needed n = unless (leb needed n) R.Room
+
+-- 3: the tree check fails
+unfoldable pub treeRefusal : Verdict → List Refusal
+treeRefusal Passes = []
+treeRefusal (Fails condition) = R.Tree condition ∷ []
+
+-- 4: one row whose length is not dim; a batch whose length is no multiple of dim
+unfoldable pub rowShapeRefusal : ℕ → ℕ → List Refusal
+rowShapeRefusal dim n = unless (eqb n dim) (R.Shape dim n)
+
+unfoldable pub batchShapeRefusal : ℕ → ℕ → List Refusal
+batchShapeRefusal dim n = unless (eqb (n % dim) 0) (R.Shape dim (n % dim))
+
+-- 5: routing, at least one row, no entries
+unfoldable pub emptyRefusal : Tree → ℕ → List Refusal
+emptyRefusal t rows = unless (eqb rows 0 || leb 1 (length (t .entries))) R.Empty
+
+-- 6: insert, and total weight plus rows exceeds 2^53; refit with entries, and its rows exceed 2^53
+unfoldable pub insertFullRefusal : Tree → ℕ → List Refusal
+insertFullRefusal t rows = unless (leb (totalOf (t .entries) + rows) most) R.Full
+
+unfoldable pub refitFullRefusal : Tree → ℕ → List Refusal
+refitFullRefusal t rows = unless (eqb (length (t .entries)) 0 || leb rows most) R.Full
+
+-- 7: output shorter than the numbers to write
+unfoldable pub outputRefusal : ℕ → ℕ → List Refusal
+outputRefusal numbers n = unless (leb numbers n) R.Output
+
+-- ---- what is lent to a changing call, and what it leaves
+
+pub record Lent : Type 0 where
+  pub floats : List Float
+  pub links : List ℕ
+  pub scratchFloats : List Float
+  pub scratchLinks : List ℕ
+
+pub record Left : Type 0 where
+  pub head : Head
+  pub answer : Answer
+  pub lent : Lent
+
+-- the tree that is lent
+unfoldable pub lentTree : Head → List Float → List ℕ → Tree
+lentTree h fs ls = treeOf (settingsOf h) (h .counters) fs ls
+
+-- 1, 2 and 3 for the two slices that hold a tree
+unfoldable pub treeRefusals : Head → List Float → List ℕ → List Refusal
+treeRefusals h fs ls =
+    let s = settingsOf h in
+    settingsRefusal h ++ (roomRefusal (floatsNeeded s) (length fs) ++ (roomRefusal (linksNeeded s) (length ls) ++ treeRefusal (checked s (lentTree h fs ls))))
+
+-- the same with scratch: so many numbers of links besides the settings' own
+unfoldable pub changeRefusals : Head → Lent → ℕ → List Refusal
+changeRefusals h l more =
+    let s = settingsOf h in
+    settingsRefusal h
+    ++ (roomRefusal (floatsNeeded s) (length (l .floats))
+    ++ (roomRefusal (linksNeeded s) (length (l .links))
+    ++ (roomRefusal (scratchFloatsNeeded s) (length (l .scratchFloats))
+    ++ (roomRefusal (scratchLinksNeeded s + more) (length (l .scratchLinks)) ++ treeRefusal (checked s (lentTree h (l .floats) (l .links)))))))
+
+module _ {A : Type 0} where
+  -- new in front, the rest as lent
+  unfoldable pub fronted : List A → List A → List A
+  fronted new old = new ++ drop (length new) old
+
+-- the tree t in the needed slots, scratch zero, each buffer's surplus as lent
+unfoldable pub changed : Head → Lent → ℕ → Tree → Left
+changed h l more t =
+    let s = settingsOf h in
+    record {
+      head = withCounters h (countersOf t);
+      answer = Accepted;
+      lent = record {
+        floats = fronted (floatsOf s t) (l .floats);
+        links = fronted (linksOf s t) (l .links);
+        scratchFloats = fronted (replicate (scratchFloatsNeeded s) f0) (l .scratchFloats);
+        scratchLinks = fronted (replicate (scratchLinksNeeded s + more) 0) (l .scratchLinks);
+      };
+    }
+
+-- refused: the head comes back and every buffer stays as lent
+unfoldable pub settle : List Refusal → Head → Lent → Left → Left
+settle [] h l done = done
+settle (r ∷ rs) h l done = record { head = h; answer = Refused r; lent = l }
+
+-- ---- creation: 1 and 2 only
+
+pub record Made : Type 0 where
+  pub head : Head
+  pub answer : Answer
+  pub floats : List Float
+  pub links : List ℕ
+
+unfoldable pub madeBy : List Refusal → Head → List Float → List ℕ → Made
+madeBy [] h fs ls =
+    let s = settingsOf h in
+    let threshold = h .counters .threshold in
+    record {
+      head = withCounters h (newCounters threshold);
+      answer = Accepted;
+      floats = fronted (floatsOf s (fresh threshold)) fs;
+      links = fronted (linksOf s (fresh threshold)) ls;
+    }
+madeBy (r ∷ rs) h fs ls = record { head = h; answer = Refused r; floats = fs; links = ls }
+
+unfoldable pub createRefusals : Head → List Float → List ℕ → List Refusal
+createRefusals h fs ls =
+    let s = settingsOf h in
+    settingsRefusal h ++ (roomRefusal (floatsNeeded s) (length fs) ++ roomRefusal (linksNeeded s) (length ls))
+
+unfoldable pub created : Head → List Float → List ℕ → Made
+created h fs ls = madeBy (createRefusals h fs ls) h fs ls
+
+-- ---- insert
+
+-- 4 and 6 for one row and for a batch of so many rows
+unfoldable pub rowRefusals : Settings → Tree → List Float → List Refusal
+rowRefusals s t x = rowShapeRefusal (s .dim) (length x) ++ insertFullRefusal t 1
+
+unfoldable pub batchRefusals : Settings → Tree → List Float → List Refusal
+batchRefusals s t xs = batchShapeRefusal (s .dim) (length xs) ++ insertFullRefusal t (length xs / s .dim)
+
+unfoldable pub rowInserted : Head → Lent → List Float → Left
+rowInserted h l x =
+    let s = settingsOf h in
+    let t = lentTree h (l .floats) (l .links) in
+    settle (changeRefusals h l 0 ++ rowRefusals s t x) h l (changed h l 0 (inserted s x t))
+
+unfoldable pub batchInserted : Head → Lent → List Float → Left
+batchInserted h l xs =
+    let s = settingsOf h in
+    let t = lentTree h (l .floats) (l .links) in
+    settle (changeRefusals h l 0 ++ batchRefusals s t xs) h l (changed h l 0 (insertedAll s (rowsOf (length xs / s .dim) (s .dim) xs) t))
+
+-- ---- refit: a number of scratch for each row besides
+
+unfoldable pub batchRefitted : Head → Lent → List Float → Left
+batchRefitted h l xs =
+    let s = settingsOf h in
+    let n = length xs / s .dim in
+    let t = lentTree h (l .floats) (l .links) in
+    settle (changeRefusals h l n ++ (batchShapeRefusal (s .dim) (length xs) ++ refitFullRefusal t n)) h l
+    (changed h l n (refitted s (rowsOf n (s .dim) xs) t))
+
+-- ---- calls that change nothing but an output
+
+pub record Written (A : Type 0) : Type 0 where
+  pub answer : Answer
+  pub output : List A
+
+module _ {A : Type 0} where
+  unfoldable pub write : List Refusal → List A → List A → Written A
+  write [] new old = record { answer = Accepted; output = fronted new old }
+  write (r ∷ rs) new old = record { answer = Refused r; output = old }
+
+-- one entry number a row to the front of the output
+unfoldable pub routed : Head → List Float → List ℕ → List Float → List ℕ → Written ℕ
+routed h fs ls xs out =
+    let s = settingsOf h in
+    let n = length xs / s .dim in
+    let t = lentTree h fs ls in
+    write (treeRefusals h fs ls ++ (batchShapeRefusal (s .dim) (length xs) ++ (emptyRefusal t n ++ outputRefusal n (length out))))
+    (map (route s t) (rowsOf n (s .dim) xs)) out
+
+-- dim numbers an entry to the front of the output
+unfoldable pub spreadWritten : Head → List Float → List ℕ → List Float → Written Float
+spreadWritten h fs ls out =
+    let s = settingsOf h in
+    let t = lentTree h fs ls in
+    write (treeRefusals h fs ls ++ outputRefusal (length (t .entries) * s .dim) (length out)) (joined (map (spreadOf (s .feature) (s .dim)) (t .entries))) out
+
+-- ---- calls that only answer
+
+unfoldable pub validated : Head → List Float → List ℕ → Answer
+validated h fs ls = answerOf (treeRefusals h fs ls)
+
+pub record Listed : Type 0 where
+  pub answer : Answer
+  pub places : Places
+
+unfoldable pub listedBy : List Refusal → Head → Listed
+listedBy [] h =
+    let s = settingsOf h in
+    record {
+      answer = Accepted;
+      places = record { entries = h .counters .entries; first = nodeCap s * slotWidth s; width = slotWidth s; means = s .dim; deviations = slotsOf (s .feature) (s .dim) };
+    }
+listedBy (r ∷ rs) h = record { answer = Refused r; places = record { entries = 0; first = 0; width = 0; means = 0; deviations = 0 } }
+
+unfoldable pub listed : Head → List Float → List ℕ → Listed
+listed h fs ls = listedBy (treeRefusals h fs ls) h

@@ -1,0 +1,23 @@
+-- Document 01 as definitions, section by section; then laws about them, and readings that compute.
+pub mod Lists
+pub mod Tree
+pub mod Descent
+pub mod Split
+pub mod Insert
+pub mod Pairs
+pub mod Reinsert
+pub mod Refold
+pub mod Rebuild
+pub mod Refit
+pub mod Check
+pub mod Slices
+pub mod ListLaws
+pub mod Stored
+pub mod Calls
+pub mod CallLaws
+pub mod Listing
+pub mod Histories
+pub mod Computes
+pub mod Seen
+pub mod Readings
+pub mod Taught

@@ -1,0 +1,140 @@
+-- The rebuild, when entries exceed M: merges until the target, the grown threshold, the merged ones dropped, reinsertion where it is due.
+use Prim.Native.Nat.{ℕ, zero, suc, _+_, _-_, _/_, max}
+use mathlib.Core.Bool.{Bool, true, false, cond, _||_, _&&_}
+use mathlib.Core.List.{List, [], _∷_, map, filterMap}
+use mathlib.Core.Option.{Option, none, some}
+use lib.ListN.{length, getD, set, take}
+use lib.Dec.{leb, ltb, eqb}
+use lib.Ieee.{Float, lt, binary64, ofBits}
+use lib.Ieee.Scale.{finite}
+use Rattle.binary64.specs.Operators.{_⊗_, f0, largest}
+use Rattle.feature.specs.Summaries.{blank}
+use Rattle.feature.specs.declared.Summary.{Summary}
+use Rattle.head.specs.declared.Settings.{Settings}
+use Rattle.rules.specs.Lists.{changeAt, keep, countUp}
+use Rattle.rules.specs.Tree.{Node, Tree, merge, absBetween, withNodes, withEntries, withMerged, listing}
+use Rattle.rules.specs.Insert.{grown}
+use Rattle.rules.specs.Pairs.{Pair, siblings, cousins, sorted}
+use Rattle.rules.specs.Reinsert.{reinserted}
+use Rattle.rules.specs.Refold.{refolded}
+
+-- max(M − M/10, 1), whole division
+unfoldable pub target : ℕ → ℕ
+target m = max (m - m / 10) 1
+
+-- ---- the merges
+
+-- the entries with merges done, which of them are not merged away, how many merges, and the widest finite gap
+pub record Merging : Type 0 where
+  pub entries : List Summary
+  pub alive : List Bool
+  pub count : ℕ
+  pub widest : Float
+
+unfoldable pub widened : Float → Float → Float
+widened w g = cond (finite g && lt w g) g w
+
+-- the second of a pair merged into the first; the gap is taken at this moment
+unfoldable pub mergeOne : Settings → Pair → Merging → Merging
+mergeOne s p m =
+    let a = getD (m .entries) (p .one) blank in
+    let b = getD (m .entries) (p .two) blank in
+    record {
+      entries = changeAt (λ e. merge s e b) (p .one) (m .entries);
+      alive = set (m .alive) (p .two) false;
+      count = suc (m .count);
+      widest = widened (m .widest) (absBetween s a b);
+    }
+
+unfoldable pub bothAlive : Pair → List Bool → Bool
+bothAlive p bs = getD bs (p .one) false && getD bs (p .two) false
+
+-- the pairs in order, those with a merged-away member skipped; k merges at most
+unfoldable pub mergeAll : Settings → ℕ → List Pair → Merging → Merging
+mergeAll s zero ps m = m
+mergeAll s (suc k) [] m = m
+mergeAll s (suc k) (p ∷ ps) m = elim (bothAlive p (m .alive)) [ true ↦ mergeAll s k ps (mergeOne s p m) | false ↦ mergeAll s (suc k) ps m ]
+
+-- ---- the threshold
+
+-- 1 + 2 ^ −50
+abbrev pub growth : Float
+growth = ofBits binary64 0x3ff0_0000_0000_0004
+
+-- the widest gap times 1 + 2 ^ −50, at most the largest float, if that is larger
+unfoldable pub grownThreshold : Float → Float → Float
+grownThreshold h w =
+    let g = cond (lt largest (w ⊗ growth)) largest (w ⊗ growth) in
+    cond (lt h g) g h
+
+-- ---- the merged-away entries dropped, and the others numbered anew
+
+unfoldable pub renumber : List Bool → ℕ → ℕ
+renumber alive e = countUp (take e alive)
+
+unfoldable pub numberIf : List Bool → ℕ → Option ℕ
+numberIf alive e = cond (getD alive e false) (some (renumber alive e)) none
+
+unfoldable pub keepNumbers : List Bool → List ℕ → List ℕ
+keepNumbers alive es = filterMap (numberIf alive) es
+
+unfoldable pub pruned : List Bool → Node → Node
+pruned alive n = listing (cond (n .leaf) (keepNumbers alive (n .list)) (n .list)) n
+
+unfoldable pub dropped : List Bool → Tree → Tree
+dropped alive t = withEntries (keep alive (t .entries)) (withNodes (map (pruned alive) (t .nodes)) t)
+
+-- ---- the rebuild
+
+unfoldable pub withMerges : Tree → Merging → Tree
+withMerges t m =
+    record {
+      nodes = t .nodes;
+      entries = m .entries;
+      root = t .root;
+      threshold = grownThreshold (t .threshold) (m .widest);
+      rebuilds = t .rebuilds;
+      merged = t .merged + m .count;
+    }
+
+-- reinsert, and set the merged total to 0, if cousins were used or it reaches M
+unfoldable pub rebalanced : Settings → Bool → Tree → Tree
+rebalanced s across t = cond (across || leb (s .«max_leaves») (t .merged)) (reinserted s (withMerged 0 t)) t
+
+unfoldable pub compacted : Settings → Bool → Tree → Merging → Tree
+compacted s across t m = cond (eqb (m .count) 0) t (rebalanced s across (dropped (m .alive) (withMerges t m)))
+
+unfoldable pub mergedBy : Settings → Bool → List Pair → Tree → Tree
+mergedBy s across ps t =
+    let start : Merging = record { entries = t .entries; alive = map (λ _. true) (t .entries); count = 0; widest = f0 } in
+    compacted s across t (mergeAll s (length (t .entries) - target (s .«max_leaves»)) (sorted ps) start)
+
+-- cousins only if no leaf has two entries
+unfoldable pub mergedWith : Settings → List Pair → Tree → Tree
+mergedWith s [] t = mergedBy s true (cousins s t (t .nodes)) t
+mergedWith s (p ∷ ps) t = mergedBy s false (p ∷ ps) t
+
+-- the u64 rebuild count stops at its top value
+unfoldable pub counted : Tree → Tree
+counted t =
+    record {
+      nodes = t .nodes;
+      entries = t .entries;
+      root = t .root;
+      threshold = t .threshold;
+      rebuilds = cond (ltb (t .rebuilds) 0xffff_ffff_ffff_ffff) (suc (t .rebuilds)) (t .rebuilds);
+      merged = t .merged;
+    }
+
+unfoldable pub rebuilt : Settings → Tree → Tree
+rebuilt s t = counted (refolded s (mergedWith s (siblings s t (t .nodes)) t))
+
+-- ---- rows
+
+unfoldable pub inserted : Settings → List Float → Tree → Tree
+inserted s x t = let u = grown s x t in cond (ltb (s .«max_leaves») (length (u .entries))) (rebuilt s u) u
+
+-- all rows one after the other
+unfoldable pub insertedAll : Settings → List (List Float) → Tree → Tree
+insertedAll s [] t = t
+insertedAll s (x ∷ xs) t = insertedAll s xs (inserted s x t)

@@ -1,0 +1,1 @@
+// The laws bite: wrong steps in place of the rules, each refused. Theorems only, no code.

@@ -1,0 +1,59 @@
+-- The tree check says what the invariant says, for any tree, empty or not: a tree that passes satisfies it, and one that satisfies it passes.
+use mathlib.Core.Bool.{_&&_}
+use lib.Dec.{T}
+use lib.Ieee.Fits.{and-r}
+use Prim.Native.Nat.{ℕ, _≤_, _<_}
+use mathlib.Core.Path.{_≡_, refl, sym, ap, subst}
+use mathlib.Core.Logic.{_⊎_, inl, inr, _≢_}
+use mathlib.Core.List.{List, [], _∷_}
+use native.Mathlib.Omega.{arith}
+use lib.ListN.{length}
+use Rattle.feature.specs.declared.Summary.{Summary}
+use Rattle.head.specs.declared.Settings.{Settings}
+use Rattle.rules.specs.declared.Verdict.the-variants.{Passes}
+use Rattle.rules.specs.Lists.{every, joined, upFrom}
+use Rattle.rules.specs.Check.{sized, rooted, listFits, linked, filled, level, weighed, unsettled, onceEach, levels, ownList, leafLists, checked, totalOf}
+use Rattle.rules.specs.Tree.{Tree}
+use Rattle.laws.specs.Check.Taken.{lowest-none, Binary64, checked-whole}
+use Rattle.laws.specs.Counting.Count.{same?}
+use Rattle.laws.specs.Inserting.First.{Holding}
+use Rattle.laws.specs.Check.Passing.{passes}
+use Rattle.laws.specs.Check.Empty.{bare-passes, checked-bare}
+
+-- the invariant of a tree between calls: it holds so many rows, in at most max_leaves entries, and its merged total is below that
+pub record AtRest (s : Settings) (t : Tree) (rows : ℕ) : Type 0 where
+  pub holds : Holding s t rows
+  pub few : length (t .entries) ≤ s .«max_leaves»
+  pub unsettled : t .merged < s .«max_leaves»
+
+pub none-total : (l : List Summary) → length l ≡ 0 → totalOf l ≡ 0
+unfolding totalOf
+none-total [] e = refl
+none-total (x ∷ l) e = absurd (omega arith)
+
+-- a tree that passes, its weights floats of binary64 as lent ones are, satisfies the invariant
+pub passing-rests : (s : Settings) (t : Tree) → Binary64 t → checked s t ≡ Passes → AtRest s t (totalOf (t .entries))
+passing-rests s t n e = go (same? (length (t .entries)) 0)
+  where
+    go : (length (t .entries) ≡ 0) ⊎ (length (t .entries) ≢ 0) → AtRest s t (totalOf (t .entries))
+    go (inl z) = let q = checked-bare s t n z e in record { holds = inl (q .0, none-total (t .entries) z); few = omega arith; unsettled = q .1 }
+    go (inr z) = let q = checked-whole s t n (omega arith) e in record { holds = inr (q .0); few = q .1; unsettled = q .2 }
+
+-- and a tree that satisfies it passes
+pub resting-passes : (s : Settings) (t : Tree) (rows : ℕ) → AtRest s t rows → checked s t ≡ Passes
+resting-passes s t rows r = go (r .holds)
+  where
+    go : Holding s t rows → checked s t ≡ Passes
+    go (inl b) =
+        let q = b .0 in
+        let m : q .3 ≡ t .merged = ap (λ u. u .merged) (sym (q .5)) in
+        let u = r .unsettled in
+        subst (λ u. checked s u ≡ Passes) (sym (q .5)) (bare-passes s (q .0) (q .1) (q .2) (q .3) (q .4) (omega arith) (omega arith))
+    go (inr w) = passes (w .1) (w .2) (r .few) (r .unsettled)
+
+-- each entry is in one leaf list, once
+pub passing-linked : (s : Settings) (t : Tree) → checked s t ≡ Passes → T (onceEach (length (t .entries)) (leafLists (t .nodes)))
+unfolding checked linked
+passing-linked s t e =
+    let b = lowest-none 1 (sized s t ∷ rooted t ∷ every (listFits s t) (t .nodes) ∷ linked t ∷ filled t ∷ level t ∷ weighed t ∷ unsettled s t ∷ []) e in
+    and-r (onceEach (length (t .nodes)) (joined (levels t)) && every (ownList t) (upFrom (length (t .nodes)) 0)) (onceEach (length (t .entries)) (leafLists (t .nodes))) (b .1 .1 .1 .0)

@@ -1,0 +1,6 @@
+-- Lists and counting.
+pub mod Count
+pub mod Sums
+pub mod Flags
+pub mod Lists
+pub mod All

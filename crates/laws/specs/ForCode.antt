@@ -1,0 +1,98 @@
+-- What code needs of a tree at rest, in one place under names that stay: where lists and parents lead, where a descent ends, the row once placed, room for a node more.
+use Prim.Native.Nat.{ℕ, zero, suc, _+_, _≤_, _<_}
+use mathlib.Core.Path.{_≡_, refl, sym, subst}
+use mathlib.Core.Logic.{inl, inr}
+use mathlib.Core.Bool.{true, false, true≢false}
+use mathlib.Core.Option.{some, Option·none-ne-some}
+use native.Mathlib.Omega.{arith}
+use lib.ListN.{length}
+use lib.Ieee.{Float}
+use Rattle.feature.specs.declared.Summary.{Summary}
+use Rattle.head.specs.declared.Settings.{Settings}
+use Rattle.rules.specs.Descent.{descended, leafFor, alongPath}
+use Rattle.rules.specs.Lists.{occurs}
+use Rattle.rules.specs.Tree.{Tree, nodeAt, cap, summed, withNodes}
+use Rattle.laws.specs.Counting.Sums.{sumTo, sum-at}
+use Rattle.laws.specs.Counting.Count.{below-lt}
+use Rattle.laws.specs.Invariant.Links.{held, held-yes, kid-in, parent-lists, nil}
+use Rattle.laws.specs.Invariant.Sound.{Settled, Looking}
+use Rattle.laws.specs.Inserting.Descent.{leaf-found}
+use Rattle.laws.specs.Invariant.Height.{height}
+use Rattle.laws.specs.Inserting.Grown.{climb-keeps}
+use Rattle.laws.specs.Inserting.First.{emptyTree, Holding}
+pub use Rattle.laws.specs.Inserting.First.{rowPlaced, PlacedRow, row-placed, grown-holds}
+pub use Rattle.laws.specs.Splitting.Up.{next-looking, next-in}
+pub use Rattle.laws.specs.Room.Nodes.{room-links, Roomy, links-roomy, Splitting, splitting-roomy}
+
+pub record Sure (s : Settings) (t : Tree) : Type 0 where
+  pub root-in : t .root < length (t .nodes)
+  pub filled : (n : ℕ) → n < length (t .nodes) → nodeAt t n .leaf ≡ false → 0 < length (nodeAt t n .list)
+  pub nodes-in : (n c : ℕ) → n < length (t .nodes) → nodeAt t n .leaf ≡ false → 0 < occurs c (nodeAt t n .list) → c < length (t .nodes)
+  pub entries-in : (n c : ℕ) → n < length (t .nodes) → nodeAt t n .leaf ≡ true → 0 < occurs c (nodeAt t n .list) → c < length (t .entries)
+  pub parent-in : (n p : ℕ) → n < length (t .nodes) → nodeAt t n .parent ≡ some p → p < length (t .nodes)
+  pub fits : (n : ℕ) → n < length (t .nodes) → length (nodeAt t n .list) ≤ cap s (nodeAt t n .leaf)
+
+settled-sure : (s : Settings) (t : Tree) (R : ℕ → ℕ) (total : ℕ) → Settled s t R total → Sure s t
+settled-sure s t R total g = record {
+  root-in = g .links .root-in;
+  filled = (λ n l f. g .links .filled n l);
+  nodes-in = (λ n c l f o. kid-in (g .links) n c l f o .0);
+  entries-in = (λ n c l f o.
+      let a : held (nodeAt t n) c ≡ occurs c (nodeAt t n .list) = held-yes (nodeAt t n) c f in
+      let b : held (nodeAt t n) c ≤ sumTo (λ k. held (nodeAt t k) c) (length (t .nodes)) = sum-at (λ k. held (nodeAt t k) c) n (length (t .nodes)) l in
+      let d = g .links .entries-once c in
+      below-lt c (length (t .entries)) (omega arith));
+  parent-in = (λ n p l e. parent-lists (g .links) n p l refl e .0);
+  fits = (λ n l. let a = g .links .caps n l in omega arith);
+}
+
+empty-sure : (s : Settings) (z : Summary) (h : Float) (r m : ℕ) → Sure s (emptyTree z h r m)
+unfolding nodeAt occurs
+empty-sure s z h r m = record { root-in = omega arith; filled = fl; nodes-in = ni; entries-in = ei; parent-in = pi; fits = ft }
+  where
+    t : Tree
+    t = emptyTree z h r m
+
+    fl : (n : ℕ) → n < 1 → nodeAt (emptyTree z h r m) n .leaf ≡ false → 0 < length (nodeAt (emptyTree z h r m) n .list)
+    fl zero l f = absurd (true≢false f)
+    fl (suc n) l f = absurd (omega arith)
+
+    ni : (n c : ℕ) → n < 1 → nodeAt (emptyTree z h r m) n .leaf ≡ false → 0 < occurs c (nodeAt (emptyTree z h r m) n .list) → c < 1
+    ni zero c l f o = absurd (true≢false f)
+    ni (suc n) c l f o = absurd (omega arith)
+
+    ei : (n c : ℕ) → n < 1 → nodeAt (emptyTree z h r m) n .leaf ≡ true → 0 < occurs c (nodeAt (emptyTree z h r m) n .list) → c < 0
+    ei zero c l f o = absurd (let q : 1 ≤ 0 = o in omega arith)
+    ei (suc n) c l f o = absurd (omega arith)
+
+    pi : (n p : ℕ) → n < 1 → nodeAt (emptyTree z h r m) n .parent ≡ some p → p < 1
+    pi zero p l e = absurd (Option·none-ne-some p e)
+    pi (suc n) p l e = absurd (omega arith)
+
+    ft : (n : ℕ) → n < 1 → length (nodeAt (emptyTree z h r m) n .list) ≤ cap s (nodeAt (emptyTree z h r m) n .leaf)
+    ft zero l = omega arith
+    ft (suc n) l = absurd (omega arith)
+
+pub sure-of : (s : Settings) (t : Tree) (total : ℕ) → Holding s t total → Sure s t
+sure-of s t total (inl b) = let q = b .0 in subst (λ u. Sure s u) (sym (q .5)) (empty-sure s (q .0) (q .1) (q .2) (q .3))
+sure-of s t total (inr w) = settled-sure s t (w .0) total (w .1)
+
+-- the leaf that a descent finds is one
+abbrev AtLeaf : Settings → (Summary → Float) → Tree → Type 0
+AtLeaf s f t = (leafFor t f < length (t .nodes)) × (nodeAt t (leafFor t f) .leaf ≡ true)
+
+empty-leaf : (s : Settings) (f : Summary → Float) (z : Summary) (h : Float) (r m : ℕ) → AtLeaf s f (emptyTree z h r m)
+unfolding leafFor descended nodeAt
+empty-leaf s f z h r m = (omega arith, refl)
+
+pub leaf-of : (s : Settings) (t : Tree) (total : ℕ) (f : Summary → Float) → Holding s t total → (leafFor t f < length (t .nodes)) × (nodeAt t (leafFor t f) .leaf ≡ true)
+leaf-of s t total f (inl b) = let q = b .0 in subst (AtLeaf s f) (sym (q .5)) (empty-leaf s f (q .0) (q .1) (q .2) (q .3))
+leaf-of s t total f (inr w) = leaf-found s t f (w .0) nil nil nil (w .1 .links)
+
+pub path-kids : (F : Summary → Summary) (l : ℕ) (t : Tree) (k : ℕ) → nodeAt (alongPath F l t) k .list ≡ nodeAt t k .list
+unfolding alongPath withNodes nodeAt summed
+path-kids F l t k = climb-keeps F (λ m. m .list) (λ m. refl) (length (t .nodes)) (some l) (t .nodes) k
+
+-- the ways up from a node of a tree so looked at are fewer than its nodes
+pub steps-few : (s : Settings) (t : Tree) (R : ℕ → ℕ) (i total : ℕ) → Looking s t R i total → R (t .root) < R i + length (t .nodes)
+steps-few s t R i total g = let q = height (g .links) in omega arith

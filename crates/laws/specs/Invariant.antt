@@ -1,0 +1,8 @@
+-- The invariant: local, with a rank for each node.
+pub mod Links
+pub mod Height
+pub mod Weights
+pub mod Weigh
+pub mod Sound
+pub mod Beneath
+pub mod Collected

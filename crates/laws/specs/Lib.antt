@@ -1,0 +1,15 @@
+-- Demand 3 over the rules.
+pub mod Counting
+pub mod Counters
+pub mod Summaries
+pub mod Invariant
+pub mod Splitting
+pub mod Inserting
+pub mod Rebuilding
+pub mod Room
+pub mod Check
+pub mod Ownership
+pub mod Refitting
+pub mod Locality
+pub mod Runs
+pub mod ForCode

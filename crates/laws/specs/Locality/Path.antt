@@ -1,0 +1,76 @@
+-- The row's path: the nodes from the leaf that its descent finds up to the root.
+use Prim.Native.Nat.{ℕ, zero, suc, _+_, _<_}
+use mathlib.Core.Path.{_≡_, refl, sym, ap, _∙_, subst}
+use mathlib.Core.Logic.{_⊎_, inl, inr, _≢_}
+use mathlib.Core.List.{List, [], _∷_}
+use mathlib.Core.Option.{Option, none, some, Option·some-injective, Option·none-ne-some}
+use native.Mathlib.Omega.{arith}
+use lib.ListN.{length}
+use lib.Ieee.{Float}
+use Rattle.head.specs.declared.Settings.{Settings}
+use Rattle.rules.specs.Lists.{occurs}
+use Rattle.rules.specs.Tree.{distTo, Tree, nodeAt}
+use Rattle.rules.specs.Descent.{leafFor}
+use Rattle.laws.specs.Counting.Count.{same?, is-other}
+use Rattle.laws.specs.Invariant.Links.{nil, Links, parent-lists}
+use Rattle.laws.specs.Inserting.Descent.{leaf-found}
+use Rattle.laws.specs.Counting.Sums.{occurs-here, occurs-cons, occurs-later}
+use Rattle.laws.specs.Invariant.Height.{height}
+
+-- from a node up, parent by parent; k nodes at most
+unfoldable pub wayUp : Tree → ℕ → Option ℕ → List ℕ
+wayUp t zero o = []
+wayUp t (suc k) none = []
+wayUp t (suc k) (some n) = n ∷ wayUp t k (nodeAt t n .parent)
+
+unfoldable pub rowPath : Settings → List Float → Tree → List ℕ
+rowPath s x t = wayUp t (length (t .nodes)) (some (leafFor t (λ c. distTo s c x)))
+
+way-first : (t : Tree) (k n : ℕ) → 0 < k → 0 < occurs n (wayUp t k (some n))
+unfolding wayUp
+way-first t zero n h = absurd (omega arith)
+way-first t (suc k) n h = occurs-here n (wayUp t k (nodeAt t n .parent))
+
+way-none : (t : Tree) (k m : ℕ) → occurs m (wayUp t k none) ≡ 0
+unfolding wayUp occurs
+way-none t zero m = refl
+way-none t (suc k) m = refl
+
+-- whoever is on the way has its parent on it: the node count is steps enough
+module _ {s : Settings} (t : Tree) {R : ℕ → ℕ} (g : Links s (nodeAt t) (length (t .nodes)) (t .root) (length (t .entries)) R nil nil nil) where
+  way-parent : (k i m p : ℕ) → i < length (t .nodes) → R (t .root) < R i + k → 0 < occurs m (wayUp t k (some i)) → nodeAt t m .parent ≡ some p → 0 < occurs p (wayUp t k (some i))
+  unfolding wayUp
+  way-parent zero i m p l h o e = let z : occurs m [] ≡ 0 = unfold occurs in refl in absurd (omega arith)
+  way-parent (suc k) i m p l h o e = occurs-later p i (wayUp t k (nodeAt t i .parent)) (go (same? m i) (nodeAt t i .parent) refl (λ q a b c. way-parent k q m p a b c e))
+    where
+      go : (m ≡ i) ⊎ (m ≢ i) → (o : Option ℕ) → nodeAt t i .parent ≡ o → ((q : ℕ) → q < length (t .nodes) → R (t .root) < R q + k → 0 < occurs m (wayUp t k (some q)) → 0 < occurs p (wayUp t k (some q))) → 0 < occurs p (wayUp t k o)
+      go (inl z) none f ih = absurd (Option·none-ne-some p (sym f ∙ ap (λ y. nodeAt t y .parent) (sym z) ∙ e))
+      go (inl z) (some q) f ih =
+          let r = parent-lists g i q l refl f in
+          let w = g .top q (r .0) in
+          let u = r .3 in
+          let same : q ≡ p = Option·some-injective q p (sym f ∙ ap (λ y. nodeAt t y .parent) (sym z) ∙ e) in
+          subst (λ y. 0 < occurs y (wayUp t k (some q))) same (way-first t k q (omega arith))
+      go (inr z) none f ih =
+          let a = occurs-cons m i (wayUp t k (nodeAt t i .parent)) in
+          let b = is-other m i z in
+          let c : occurs m (wayUp t k (nodeAt t i .parent)) ≡ 0 = ap (λ y. occurs m (wayUp t k y)) f ∙ way-none t k m in
+          absurd (omega arith)
+      go (inr z) (some q) f ih =
+          let r = parent-lists g i q l refl f in
+          let u = r .3 in
+          let a = occurs-cons m i (wayUp t k (nodeAt t i .parent)) in
+          let b = is-other m i z in
+          let c : occurs m (wayUp t k (nodeAt t i .parent)) ≡ occurs m (wayUp t k (some q)) = ap (λ y. occurs m (wayUp t k y)) f in
+          ih q (r .0) (omega arith) (omega arith)
+
+  pub path-leaf-on : (x : List Float) → 0 < occurs (leafFor t (λ c. distTo s c x)) (rowPath s x t)
+  unfolding rowPath
+  path-leaf-on x = way-first t (length (t .nodes)) (leafFor t (λ c. distTo s c x)) (let r = g .root-in in omega arith)
+
+  pub path-parent-on : (x : List Float) (m p : ℕ) → 0 < occurs m (rowPath s x t) → nodeAt t m .parent ≡ some p → 0 < occurs p (rowPath s x t)
+  unfolding rowPath
+  path-parent-on x m p o e =
+      let l = leaf-found s t (λ c. distTo s c x) R nil nil nil g in
+      let h = height g in
+      way-parent (length (t .nodes)) (leafFor t (λ c. distTo s c x)) m p (l .0) (omega arith) o e

@@ -1,0 +1,82 @@
+-- The account's words: owners, entries' weights, nodes' weights and the count of rows.
+use Prim.Native.Nat.{ℕ, suc, _+_, _*_, _≤_, _<_}
+use mathlib.Core.Path.{_≡_, refl, sym, ap, _∙_, subst}
+use mathlib.Core.Bool.{Bool, true, false, not, cond}
+use mathlib.Core.List.{List, [], _∷_}
+use native.Mathlib.Nat.{mul-one}
+use native.Mathlib.Omega.{arith}
+use lib.Dec.{T, ltb, ltb→lt, nltb→le}
+use lib.ListN.{length, getD}
+use lib.Ieee.{Float}
+use Rattle.binary64.specs.Whole.{whole}
+use Rattle.head.specs.declared.Settings.{Settings}
+use Rattle.rules.specs.Tree.{Tree, nodeAt, entryAt, blankNode, fresh}
+use Rattle.rules.specs.Lists.{occurs}
+use Rattle.rules.specs.Check.{rowsIn}
+use Rattle.rules.specs.Reinsert.{collected}
+use Rattle.laws.specs.Counting.Count.{is}
+use Rattle.laws.specs.Counting.Sums.{is-sym, over, over-same, occurs-over, occurs-cons, length-over, sumTo, sum-same}
+use Rattle.laws.specs.Invariant.Weights.{blank-exact}
+use Rattle.laws.specs.Invariant.Sound.{entryWeight, nodeWeight}
+use Rattle.laws.specs.Inserting.Grown.{Whole}
+use Rattle.laws.specs.Invariant.Beneath.{over-sum}
+use Rattle.laws.specs.Rebuilding.Reinsert.{entries-total}
+use Rattle.laws.specs.Check.Beneath.{beneath-weighs, beneath-once}
+use Rattle.laws.specs.Ownership.Owner.{among, rowsAmong, Account}
+use Rattle.laws.specs.Ownership.Owned.{Owned, owner-in, over-plus, over-zero, get-occurs}
+
+pub rows-over : (l a : List ℕ) → ((c : ℕ) → occurs c l ≤ 1) → rowsAmong l a ≡ over (λ c. occurs c l) a
+unfolding rowsAmong over among
+rows-over l [] h = refl
+rows-over l (c ∷ a) h = go (ltb 0 (occurs c l)) (ltb→lt 0 (occurs c l)) (nltb→le 0 (occurs c l)) (rows-over l a h) (h c)
+  where
+    go : (b : Bool) → (T b → 0 < occurs c l) → (T (not b) → occurs c l ≤ 0) → rowsAmong l a ≡ over (λ c. occurs c l) a → occurs c l ≤ 1 → cond b (suc (rowsAmong l a)) (rowsAmong l a) ≡ occurs c l + over (λ c. occurs c l) a
+    go true f g r q = let z = f tt in omega arith
+    go false f g r q = let z = g tt in omega arith
+
+pub over-swap : (l a : List ℕ) → over (λ c. occurs c a) l ≡ over (λ c. occurs c l) a
+over-swap [] a =
+    let z : over (λ c. occurs c a) [] ≡ 0 = unfold over in refl in
+    z ∙ sym (over-same (λ c. occurs c []) (λ _. 0) a (λ c o. unfold occurs in refl) ∙ over-zero a)
+over-swap (x ∷ l) a =
+    let z : over (λ c. occurs c a) (x ∷ l) ≡ occurs x a + over (λ c. occurs c a) l = unfold over in refl in
+    let h = over-swap l a in
+    let p : over (λ c. occurs c (x ∷ l)) a ≡ over (λ c. is c x + occurs c l) a = over-same (λ c. occurs c (x ∷ l)) (λ c. is c x + occurs c l) a (λ c o. occurs-cons c x l) in
+    let q = over-plus (λ c. is c x) (λ c. occurs c l) a in
+    let r : over (λ c. is c x) a ≡ over (is x) a = over-same (λ c. is c x) (is x) a (λ c o. is-sym c x) in
+    let e = occurs-over x a in
+    omega arith
+
+-- as many rows as the entries weigh
+pub owned-sum : (t : Tree) (a : List ℕ) → Owned t a → length a ≡ sumTo (entryWeight t) (length (t .entries))
+owned-sum t a o =
+    length-over a ∙ over-sum (λ _. 1) (length (t .entries)) a (λ c q. owner-in t a o c q)
+    ∙ sum-same (entryWeight t) (λ c. occurs c a * 1) (length (t .entries)) (λ c q. mul-one (occurs c a) ∙ sym (o c))
+
+module _ (s : Settings) (t : Tree) (total : ℕ) (a : List ℕ) (w : Whole s t total) (o : Owned t a) where
+  pub owned-account : Account t a
+  owned-account = record {
+    owners = (λ i h. owner-in t a o (getD a i 0) (get-occurs a i 0 h));
+    entries = (λ c h. w .1 .exact .at-entry c h .0 ∙ ap (λ n. whole n) (sym (read c) ∙ o c));
+    nodes = (λ k h. w .1 .exact .at-node k h .0 ∙ ap (λ n. whole n) (sym (read-node k) ∙ beneath k h));
+  }
+    where
+      read : (c : ℕ) → entryWeight t c ≡ rowsIn (entryAt t c)
+      read c = unfold entryWeight in refl
+
+      read-node : (k : ℕ) → nodeWeight t k ≡ rowsIn (nodeAt t k .summary)
+      read-node k = unfold nodeWeight in refl
+
+      beneath : (k : ℕ) → k < length (t .nodes) → nodeWeight t k ≡ rowsAmong (collected t (length (t .nodes)) (k ∷ [])) a
+      beneath k h =
+          beneath-weighs (w .1) k h ∙ entries-total t (collected t (length (t .nodes)) (k ∷ []))
+          ∙ over-same (entryWeight t) (λ c. occurs c a) (collected t (length (t .nodes)) (k ∷ [])) (λ c q. o c)
+          ∙ over-swap (collected t (length (t .nodes)) (k ∷ [])) a ∙ sym (rows-over (collected t (length (t .nodes)) (k ∷ [])) a (λ c. beneath-once (w .1) k c h))
+
+pub fresh-account : (h : Float) → Account (fresh h) []
+unfolding fresh nodeAt blankNode rowsAmong
+fresh-account h = record {
+  owners = (λ i q. absurd (omega arith));
+  entries = (λ c q. absurd (omega arith));
+  nodes = (λ k q. subst (λ j. nodeAt (fresh h) j .summary .weight ≡ whole 0) (let z : 0 ≡ k = omega arith in z) (blank-exact .0));
+}

@@ -1,0 +1,218 @@
+-- The account through merges, reinsertion and a rebuild.
+use Prim.Native.Nat.{ℕ, zero, suc, _+_, _-_, _≤_, _<_}
+use mathlib.Core.Path.{_≡_, refl, sym, ap, _∙_, subst}
+use mathlib.Core.Logic.{_⊎_, inl, inr}
+use mathlib.Core.Bool.{Bool, true, false, _||_, cond}
+use mathlib.Core.List.{List, [], _∷_, _++_, map, reverse, reverseAux, append-assoc}
+use native.Mathlib.Omega.{arith}
+use lib.Dec.{leb, eqb}
+use lib.ListN.{length, getD, List·getD-map}
+use Rattle.binary64.specs.Whole.{most}
+use Rattle.feature.specs.declared.Summary.{Summary}
+use Rattle.feature.specs.Summaries.{blank}
+use Rattle.head.specs.declared.Settings.{Settings}
+use Rattle.rules.specs.Lists.{snoc, occurs}
+use Rattle.rules.specs.Tree.{Tree, nodeAt, entryAt, withMerged}
+use Rattle.rules.specs.Pairs.{Pair, sorted, siblings, cousins}
+use Rattle.rules.specs.Rebuild.{Merging, mergeOne, bothAlive, mergeAll, target, renumber, dropped, withMerges, rebalanced, compacted, mergedBy, mergedWith, counted, rebuilt}
+use Rattle.rules.specs.Reinsert.{collected, replaced, replacedAll, cleared, reinserted}
+use Rattle.rules.specs.Refold.{refolded}
+use Rattle.rules.specs.Check.{rowsIn}
+use Rattle.laws.specs.Counting.Lists.{past-end}
+use Rattle.laws.specs.Inserting.Grown.{Counted}
+use Rattle.laws.specs.Counting.Count.{is, below, below-in, lt?, eq-test}
+use Rattle.laws.specs.Counting.Sums.{occurs-over, occurs-cons}
+use Rattle.laws.specs.Invariant.Links.{nil}
+use Rattle.laws.specs.Invariant.Sound.{entryWeight, Settled}
+use Rattle.laws.specs.Invariant.Beneath.{Frame}
+use Rattle.laws.specs.Counting.Flags.{alive, alive-up, alive-down, is-sum, flag?}
+use Rattle.laws.specs.Invariant.Collected.{collect-sum}
+use Rattle.laws.specs.Rebuilding.Reinsert.{place-entries}
+use Rattle.laws.specs.Rebuilding.Merge.{Merged, mergeWeight, merged-one, Every, merge-all, merges-some, aw-a, aw-b, aw-o}
+use Rattle.laws.specs.Rebuilding.Pairs.{NearPair, siblings-all, every-sorted, sorted-length, leaves-single, every-map}
+use Rattle.laws.specs.Rebuilding.Cousins.{FarPair, cousins-far, cousins-some}
+use Rattle.laws.specs.Rebuilding.Rebuilt.{mergeStart, begun-alive, frame-v, begun-merged, near-far, living-first}
+use Rattle.laws.specs.Ownership.Owner.{mergedTo, mergedInto, placeIn, reinsertedTo, rebalancedTo, compactedTo, mergedByTo, mergedWithTo, rebuiltTo}
+use Rattle.laws.specs.Ownership.Owned.{Carries, carries-then, carries-same, weight-past, owner-in, merge-carries, drop-carries, place-occurs, place-get}
+use Rattle.laws.specs.Counters.{refolded-entries}
+
+-- ---- all merges
+
+pub merges-carry : (s : Settings) (n total : ℕ) → total ≤ most → (k : ℕ) (ps : List Pair) (m : Merging) → Merged s n total m → Every (FarPair n) ps
+    → Carries (λ c. mergedInto s k ps m c) (alive (m .alive) (mergeWeight s m)) (alive ((mergeAll s k ps m) .alive) (mergeWeight s (mergeAll s k ps m)))
+unfolding mergeAll mergedInto
+merges-carry s n total b zero ps m g f = carries-same (alive (m .alive) (mergeWeight s m)) (alive (m .alive) (mergeWeight s m)) (λ c. refl)
+merges-carry s n total b (suc k) [] m g f = carries-same (alive (m .alive) (mergeWeight s m)) (alive (m .alive) (mergeWeight s m)) (λ c. refl)
+merges-carry s n total b (suc k) (p ∷ ps) m g f =
+    go (bothAlive p (m .alive)) refl (λ e. merges-carry s n total b k ps (mergeOne s p m) (merged-one p b g (f .0 .2) e) (f .1)) (merges-carry s n total b (suc k) ps m g (f .1))
+  where
+    go : (l : Bool) → bothAlive p (m .alive) ≡ l
+        → (bothAlive p (m .alive) ≡ true → Carries (λ c. mergedInto s k ps (mergeOne s p m) c) (alive ((mergeOne s p m) .alive) (mergeWeight s (mergeOne s p m))) (alive ((mergeAll s k ps (mergeOne s p m)) .alive) (mergeWeight s (mergeAll s k ps (mergeOne s p m)))))
+        → Carries (λ c. mergedInto s (suc k) ps m c) (alive (m .alive) (mergeWeight s m)) (alive ((mergeAll s (suc k) ps m) .alive) (mergeWeight s (mergeAll s (suc k) ps m)))
+        → Carries (λ c. elim l as (λ _. ℕ) [ true ↦ mergedInto s k ps (mergeOne s p m) (mergedTo p c) | false ↦ mergedInto s (suc k) ps m c ]) (alive (m .alive) (mergeWeight s m))
+        (alive ((elim l as (λ _. Merging) [ true ↦ mergeAll s k ps (mergeOne s p m) | false ↦ mergeAll s (suc k) ps m ]) .alive) (mergeWeight s (elim l as (λ _. Merging) [ true ↦ mergeAll s k ps (mergeOne s p m) | false ↦ mergeAll s (suc k) ps m ])))
+    go true e x y =
+        carries-then (mergedTo p) (λ c. mergedInto s k ps (mergeOne s p m) c) (alive (m .alive) (mergeWeight s m)) (alive ((mergeOne s p m) .alive) (mergeWeight s (mergeOne s p m))) (alive ((mergeAll s k ps (mergeOne s p m)) .alive) (mergeWeight s (mergeAll s k ps (mergeOne s p m))))
+        (merge-carries p (f .0 .2) (alive (m .alive) (mergeWeight s m)) (alive ((mergeOne s p m) .alive) (mergeWeight s (mergeOne s p m)))
+        (aw-a p b g (f .0 .2) e) (aw-b p b g (f .0 .2) e) (aw-o p b g (f .0 .2) e)) (x e)
+    go false e x y = y
+
+-- ---- reinsertion
+
+all-entries : (s : Settings) (es : List Summary) (t : Tree) → (replacedAll s es t) .entries ≡ t .entries ++ es
+unfolding replacedAll snoc
+all-entries s [] t = sym (append-nil′ (t .entries))
+  where
+    append-nil′ : (l : List Summary) → l ++ [] ≡ l
+    append-nil′ [] = refl
+    append-nil′ (e ∷ l) = ap (λ z. e ∷ z) (append-nil′ l)
+all-entries s (e ∷ es) t = all-entries s es (replaced s e t) ∙ ap (λ l. l ++ es) (place-entries s e t) ∙ append-assoc (t .entries) (e ∷ []) es
+
+map-back : {A : Type 0} (f : ℕ → A) (l r : List ℕ) → map f (reverseAux l r) ≡ reverseAux (map f l) (map f r)
+map-back f [] r = refl
+map-back f (c ∷ l) r = map-back f l (c ∷ r)
+
+occurs-back : (c : ℕ) (l r : List ℕ) → occurs c (reverseAux l r) ≡ occurs c l + occurs c r
+occurs-back c [] r = let z : occurs c [] ≡ 0 = unfold occurs in refl in omega arith
+occurs-back c (x ∷ l) r = let h = occurs-back c l (x ∷ r) in let p = occurs-cons c x l in let q = occurs-cons c x r in omega arith
+
+module _ (s : Settings) (t : Tree) {R : ℕ → ℕ} (g : Frame (nodeAt t) (length (t .nodes)) (t .root) (length (t .entries)) R) where
+  abbrev order : List ℕ
+  order = reverse (collected t (length (t .nodes)) (t .root ∷ []))
+
+  entries-are : (reinserted s t) .entries ≡ map (entryAt t) (reverse (collected t (length (t .nodes)) (t .root ∷ [])))
+  unfolding reinserted cleared
+  entries-are = all-entries s (reverse (map (entryAt t) (collected t (length (t .nodes)) (t .root ∷ [])))) (cleared t) ∙ sym (map-back (entryAt t) (collected t (length (t .nodes)) (t .root ∷ [])) [])
+
+  weight-at : (k : ℕ) → entryWeight (reinserted s t) k ≡ entryWeight t (getD (reverse (collected t (length (t .nodes)) (t .root ∷ []))) k (length (t .entries)))
+  unfolding entryWeight
+  weight-at k =
+      begin
+      ∙ ap (λ d. rowsIn (getD (map (entryAt t) (reverse (collected t (length (t .nodes)) (t .root ∷ [])))) k d)) (sym end)
+      ∙ ap (λ m. rowsIn m) (List·getD-map (entryAt t) (reverse (collected t (length (t .nodes)) (t .root ∷ []))) k (length (t .entries)))
+    where
+      begin : entryWeight (reinserted s t) k ≡ rowsIn (getD (map (entryAt t) (reverse (collected t (length (t .nodes)) (t .root ∷ [])))) k blank)
+      begin = unfold entryWeight entryAt in ap (λ l. rowsIn (getD l k blank)) entries-are
+
+      end : entryAt t (length (t .entries)) ≡ blank
+      end = unfold entryAt in past-end (t .entries) blank (length (t .entries)) (omega arith)
+
+  once : (c : ℕ) → occurs c (reverse (collected t (length (t .nodes)) (t .root ∷ []))) ≡ below c (length (t .entries))
+  once c =
+      let a = occurs-back c (collected t (length (t .nodes)) (t .root ∷ [])) [] in
+      let z : occurs c [] ≡ 0 = unfold occurs in refl in
+      let b = occurs-over c (collected t (length (t .nodes)) (t .root ∷ [])) in
+      let d = collect-sum s t g (is c) in
+      let e = is-sum c (length (t .entries)) in
+      omega arith
+
+  -- the entry itself goes by the same number
+  pub reinserted-at : (c : ℕ) → c < length (t .entries) → entryAt (reinserted s t) (reinsertedTo s t c) ≡ entryAt t c
+  unfolding reinsertedTo
+  reinserted-at c h = begin ∙ List·getD-map (entryAt t) order (placeIn order c) (length (t .entries)) ∙ ap (λ k. entryAt t k) (place-get order c (length (t .entries)) (let a = once c in let b = below-in c (length (t .entries)) h in omega arith))
+    where
+      end : entryAt t (length (t .entries)) ≡ blank
+      end = unfold entryAt in past-end (t .entries) blank (length (t .entries)) (omega arith)
+
+      begin : entryAt (reinserted s t) (placeIn order c) ≡ getD (map (entryAt t) order) (placeIn order c) (entryAt t (length (t .entries)))
+      begin = subst (λ d. entryAt (reinserted s t) (placeIn order c) ≡ getD (map (entryAt t) order) (placeIn order c) d) (sym end) (unfold entryAt in ap (λ l. getD l (placeIn order c) blank) entries-are)
+
+  pub reinsert-carries : Carries (λ c. reinsertedTo s t c) (entryWeight t) (entryWeight (reinserted s t))
+  unfolding reinsertedTo
+  reinsert-carries a h k =
+      weight-at k ∙ h (getD (reverse (collected t (length (t .nodes)) (t .root ∷ []))) k (length (t .entries)))
+      ∙ sym (place-occurs (reverse (collected t (length (t .nodes)) (t .root ∷ []))) (length (t .entries)) k a (λ i o. let q = owner-in t a h i o in (once i ∙ below-in i (length (t .entries)) q, (λ e. clash i q e))))
+    where
+      clash : (i : ℕ) → i < length (t .entries) → i ≡ length (t .entries) → ⊥
+      clash i q e = omega arith
+
+-- ---- the rebuild
+
+module _ {s : Settings} {t : Tree} {R : ℕ → ℕ} {total : ℕ} (g : Settled s t R total) (n : Counted t total) where
+  begin-carries : Carries (λ c. c) (entryWeight t) (alive ((mergeStart t) .alive) (mergeWeight s (mergeStart t)))
+  unfolding mergeWeight entryWeight entryAt
+  begin-carries = carries-same (entryWeight t) (alive ((mergeStart t) .alive) (mergeWeight s (mergeStart t))) (λ c. go c (lt? c (length (t .entries))))
+    where
+      go : (c : ℕ) → (c < length (t .entries)) ⊎ (length (t .entries) ≤ c) → alive ((mergeStart t) .alive) (mergeWeight s (mergeStart t)) c ≡ entryWeight t c
+      go c (inl h) = begun-alive g n (mergeWeight s (mergeStart t)) c h
+      go c (inr h) = off (flag? ((mergeStart t) .alive) c)
+        where
+          off : (getD ((mergeStart t) .alive) c false ≡ true) ⊎ (getD ((mergeStart t) .alive) c false ≡ false) → alive ((mergeStart t) .alive) (mergeWeight s (mergeStart t)) c ≡ entryWeight t c
+          off (inl e) = alive-up ((mergeStart t) .alive) (mergeWeight s (mergeStart t)) c e
+          off (inr e) = alive-down ((mergeStart t) .alive) (mergeWeight s (mergeStart t)) c e ∙ sym (weight-past t c h)
+
+  module _ {m : Merging} (d : Merged s (length (t .entries)) total m) (h : 0 < length (t .entries)) where
+    drop-moves : Carries (renumber (m .alive)) (alive (m .alive) (mergeWeight s m)) (entryWeight (dropped (m .alive) (withMerges t m)))
+    drop-moves a k = drop-carries s (withMerges t m) (m .alive) len a (λ c. same c ∙ k c)
+      where
+        len : length (m .alive) ≡ length ((withMerges t m) .entries)
+        len = unfold withMerges in (d .len-a ∙ sym (d .len-e))
+
+        same : (c : ℕ) → alive (m .alive) (entryWeight (withMerges t m)) c ≡ alive (m .alive) (mergeWeight s m) c
+        same c = unfold withMerges entryWeight entryAt mergeWeight alive in refl
+
+    again-moves : Carries (λ c. reinsertedTo s (withMerged 0 (dropped (m .alive) (withMerges t m))) c) (entryWeight (dropped (m .alive) (withMerges t m))) (entryWeight (reinserted s (withMerged 0 (dropped (m .alive) (withMerges t m)))))
+    again-moves a k = reinsert-carries s (withMerged 0 (dropped (m .alive) (withMerges t m))) {R = R} (unfold withMerged nodeAt in frame-v g n d h) a (λ c. same c ∙ k c)
+      where
+        same : (c : ℕ) → entryWeight (withMerged 0 (dropped (m .alive) (withMerges t m))) c ≡ entryWeight (dropped (m .alive) (withMerges t m)) c
+        same c = unfold withMerged entryWeight entryAt in refl
+
+    balance-moves : (across : Bool) → Carries (λ c. rebalancedTo s across (dropped (m .alive) (withMerges t m)) c) (entryWeight (dropped (m .alive) (withMerges t m))) (entryWeight (rebalanced s across (dropped (m .alive) (withMerges t m))))
+    unfolding rebalanced rebalancedTo
+    balance-moves across = go (across || leb (s .«max_leaves») ((dropped (m .alive) (withMerges t m)) .merged))
+      where
+        go : (b : Bool) → Carries (λ c. cond b (reinsertedTo s (withMerged 0 (dropped (m .alive) (withMerges t m))) c) c) (entryWeight (dropped (m .alive) (withMerges t m)))
+            (entryWeight (cond b (reinserted s (withMerged 0 (dropped (m .alive) (withMerges t m)))) (dropped (m .alive) (withMerges t m))))
+        go true = again-moves
+        go false = carries-same (entryWeight (dropped (m .alive) (withMerges t m))) (entryWeight (dropped (m .alive) (withMerges t m))) (λ c. refl)
+
+    compact-moves : (across : Bool) → 1 ≤ m .count → Carries (λ c. compactedTo s across t m c) (alive (m .alive) (mergeWeight s m)) (entryWeight (compacted s across t m))
+    unfolding compacted compactedTo
+    compact-moves across k = go (eqb (m .count) 0) refl
+      where
+        go : (b : Bool) → eqb (m .count) 0 ≡ b → Carries (λ c. cond b c (rebalancedTo s across (dropped (m .alive) (withMerges t m)) (renumber (m .alive) c))) (alive (m .alive) (mergeWeight s m)) (entryWeight (cond b t (rebalanced s across (dropped (m .alive) (withMerges t m)))))
+        go true e = let z = eq-test (m .count) 0 true e .0 refl in absurd (omega arith)
+        go false e = carries-then (renumber (m .alive)) (λ c. rebalancedTo s across (dropped (m .alive) (withMerges t m)) c) (alive (m .alive) (mergeWeight s m)) (entryWeight (dropped (m .alive) (withMerges t m))) (entryWeight (rebalanced s across (dropped (m .alive) (withMerges t m)))) drop-moves (balance-moves across)
+
+  by-moves : (across : Bool) (ps : List Pair) → 1 ≤ s .«max_leaves» → s .«max_leaves» < length (t .entries) → 0 < length ps → Every (FarPair (length (t .entries))) ps
+      → Carries (λ c. mergedByTo s across ps t c) (entryWeight t) (entryWeight (mergedBy s across ps t))
+  unfolding mergedBy mergedByTo
+  by-moves across ps one more some-ps far =
+      carries-then (λ c. mergedInto s (length (t .entries) - target (s .«max_leaves»)) (sorted ps) (mergeStart t) c) (λ c. compactedTo s across t m c) (entryWeight t) (alive (m .alive) (mergeWeight s m)) (entryWeight (compacted s across t m))
+      (carries-then (λ c. c) (λ c. mergedInto s (length (t .entries) - target (s .«max_leaves»)) (sorted ps) (mergeStart t) c) (entryWeight t) (alive ((mergeStart t) .alive) (mergeWeight s (mergeStart t))) (alive (m .alive) (mergeWeight s m))
+      begin-carries (merges-carry s (length (t .entries)) total (g .exact .small) (length (t .entries) - target (s .«max_leaves»)) (sorted ps) (mergeStart t) (begun-merged g n) all-far))
+      (compact-moves merged (omega arith) across (first (sorted ps) (sorted-length ps) all-far))
+    where
+      m : Merging
+      m = mergeAll s (length (t .entries) - target (s .«max_leaves»)) (sorted ps) (mergeStart t)
+
+      all-far : Every (FarPair (length (t .entries))) (sorted ps)
+      all-far = every-sorted (FarPair (length (t .entries))) ps far
+
+      merged : Merged s (length (t .entries)) total (mergeAll s (length (t .entries) - target (s .«max_leaves»)) (sorted ps) (mergeStart t))
+      merged = merge-all s (Merged s (length (t .entries)) total) (FarPair (length (t .entries))) (λ p m q l x. merged-one p (g .exact .small) x (q .2) l) (length (t .entries) - target (s .«max_leaves»)) (sorted ps) (mergeStart t) all-far (begun-merged g n)
+
+      enough : 1 ≤ length (t .entries) - target (s .«max_leaves»)
+      enough = unfold target in omega arith
+
+      first : (qs : List Pair) → length qs ≡ length ps → Every (FarPair (length (t .entries))) qs → 1 ≤ (mergeAll s (length (t .entries) - target (s .«max_leaves»)) qs (mergeStart t)) .count
+      first [] e a = absurd (omega arith)
+      first (q ∷ qs) e a = merges-some s (length (t .entries) - target (s .«max_leaves»)) q qs (mergeStart t) enough (living-first g n q (a .0))
+
+  with-moves : 1 ≤ s .«max_leaves» → s .«max_leaves» < length (t .entries) → Carries (λ c. mergedWithTo s (siblings s t (t .nodes)) t c) (entryWeight t) (entryWeight (mergedWith s (siblings s t (t .nodes)) t))
+  unfolding mergedWith mergedWithTo
+  with-moves one more = go (siblings s t (t .nodes)) refl (siblings-all s t)
+    where
+      go : (ps : List Pair) → siblings s t (t .nodes) ≡ ps → Every (NearPair s t) ps → Carries (λ c. mergedWithTo s ps t c) (entryWeight t) (entryWeight (mergedWith s ps t))
+      go [] e a = by-moves true (cousins s t (t .nodes)) one more (cousins-some t (g .links) (leaves-single s t R nil nil nil (g .links) (ap (λ z. length z) e)) (omega arith)) (cousins-far t (g .links) (t .nodes))
+      go (p ∷ ps) e a = by-moves false (p ∷ ps) one more (omega arith) (every-map (NearPair s t) (FarPair (length (t .entries))) (p ∷ ps) (near-far g n) a)
+
+  pub rebuild-moves : 1 ≤ s .«max_leaves» → s .«max_leaves» < length (t .entries) → Carries (λ c. rebuiltTo s t c) (entryWeight t) (entryWeight (rebuilt s t))
+  unfolding rebuilt rebuiltTo
+  rebuild-moves one more a h c = same c ∙ with-moves one more a h c
+    where
+      v : Tree
+      v = mergedWith s (siblings s t (t .nodes)) t
+
+      same : (c : ℕ) → entryWeight (counted (refolded s v)) c ≡ entryWeight v c
+      same c = unfold counted entryWeight entryAt in ap (λ l. rowsIn (getD l c blank)) (refolded-entries s v)

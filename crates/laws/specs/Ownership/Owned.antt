@@ -1,0 +1,274 @@
+-- Each entry weighs as many rows as the account gives it: kept by each step.
+use Prim.Native.Nat.{ℕ, zero, suc, _+_, _*_, _≤_, _<_}
+use mathlib.Core.Path.{_≡_, refl, sym, ap, _∙_}
+use mathlib.Core.Logic.{_⊎_, inl, inr, _≢_}
+use mathlib.Core.Bool.{Bool, true, false, cond}
+use mathlib.Core.List.{List, [], _∷_, map, map-map, map-id}
+use native.Mathlib.Nat.{not-suc-le-zero, le-of-suc-le-suc, zero-mul, mul-one, mul-zero}
+use native.Mathlib.Omega.{arith}
+use lib.Dec.{eqb}
+use lib.ListN.{length, getD}
+use lib.Ieee.{Float}
+use Rattle.binary64.specs.Whole.{most}
+use Rattle.feature.specs.Summaries.{blank}
+use Rattle.head.specs.declared.Settings.{Settings}
+use Rattle.rules.specs.declared.Nearest.{Nearest}
+use Rattle.rules.specs.declared.Nearest.the-variants.{Entry, Nothing}
+use Rattle.rules.specs.Lists.{changeAt, snoc, countUp, occurs}
+use Rattle.rules.specs.Tree.{push, Tree, entryAt, withNodes, withEntries}
+use Rattle.rules.specs.Insert.{begun, absorbed, absorbedOrBegun, absorbs}
+use Rattle.rules.specs.Pairs.{Pair}
+use Rattle.rules.specs.Rebuild.{renumber, dropped}
+use Rattle.rules.specs.Check.{rowsIn}
+use Rattle.laws.specs.Invariant.Weights.{IsExact, exact-count, blank-exact, push-weigh}
+use Rattle.laws.specs.Inserting.Grown.{Hit}
+use Rattle.laws.specs.Counting.Count.{is, is-same, is-other, same?, lt?, eq-test}
+use Rattle.laws.specs.Counting.Sums.{over, over-same, occurs-over, occurs-cons, sumTo, sum-same, sum-none}
+use Rattle.laws.specs.Counting.Lists.{change-at, change-off, snoc-at, snoc-off, past-end}
+use Rattle.laws.specs.Invariant.Sound.{entryWeight}
+use Rattle.laws.specs.Inserting.Climb.{only, only-at, only-off}
+use Rattle.laws.specs.Invariant.Beneath.{over-sum, sum-only}
+use Rattle.laws.specs.Counting.Flags.{alive, alive-up, alive-down, flag?, renumber-sum, keep-at, keep-length, up-in}
+use Rattle.laws.specs.Ownership.Owner.{takerOf, mergedTo, placeIn}
+
+-- the account a gives entry c as many rows as it weighs; what is no entry weighs nothing and owns nothing
+abbrev pub Owned : Tree → List ℕ → Type 0
+Owned t a = (c : ℕ) → entryWeight t c ≡ occurs c a
+
+-- f moves weights v to weights w: an account of v, moved by f, is one of w
+abbrev pub Carries : (ℕ → ℕ) → (ℕ → ℕ) → (ℕ → ℕ) → Type 0
+Carries f v w = (a : List ℕ) → ((c : ℕ) → v c ≡ occurs c a) → (c : ℕ) → w c ≡ occurs c (map f a)
+
+pub carries-then : (f g v w x : ℕ → ℕ) → Carries f v w → Carries g w x → Carries (λ c. g (f c)) v x
+carries-then f g v w x p q a h c = q (map f a) (p a h) c ∙ ap (λ l. occurs c l) (map-map g f a)
+
+-- weights that are the same, number by number
+pub carries-same : (v w : ℕ → ℕ) → ((c : ℕ) → w c ≡ v c) → Carries (λ c. c) v w
+carries-same v w e a h c = e c ∙ h c ∙ ap (λ l. occurs c l) (sym (map-id a))
+
+pub weight-past : (t : Tree) (c : ℕ) → length (t .entries) ≤ c → entryWeight t c ≡ 0
+unfolding entryWeight entryAt
+weight-past t c h = ap (λ e. rowsIn e) (past-end (t .entries) blank c h) ∙ exact-count blank 0 blank-exact
+
+-- whoever owns a row is an entry
+pub owner-in : (t : Tree) (a : List ℕ) → Owned t a → (c : ℕ) → 0 < occurs c a → c < length (t .entries)
+owner-in t a w c o = go (lt? c (length (t .entries)))
+  where
+    go : (c < length (t .entries)) ⊎ (length (t .entries) ≤ c) → c < length (t .entries)
+    go (inl h) = h
+    go (inr h) = let p = w c in let q = weight-past t c h in absurd (omega arith)
+
+-- ---- a row in
+
+module _ (s : Settings) (x : List Float) (t : Tree) (exact : (c : ℕ) → c < length (t .entries) → IsExact (entryAt t c) × (entryWeight t c < most)) where
+  new-one : (l c : ℕ) → entryWeight (begun l (push s x blank) t) c ≡ entryWeight t c + is c (length (t .entries))
+  unfolding begun withNodes withEntries entryWeight entryAt
+  new-one l c = go (same? c (length (t .entries)))
+    where
+      go : (c ≡ length (t .entries)) ⊎ (c ≢ length (t .entries)) → rowsIn (getD (snoc (t .entries) (push s x blank)) c blank) ≡ rowsIn (getD (t .entries) c blank) + is c (length (t .entries))
+      go (inl q) =
+          let a : rowsIn (getD (snoc (t .entries) (push s x blank)) c blank) ≡ 1 =
+          ap (λ k. rowsIn (getD (snoc (t .entries) (push s x blank)) k blank)) q ∙ ap (λ m. rowsIn m) (snoc-at (t .entries) (push s x blank) blank)
+          ∙ exact-count (push s x blank) 1 (push-weigh s x blank 0 blank-exact (omega arith)) in
+          let b : rowsIn (getD (t .entries) c blank) ≡ 0 = weight-past t c (omega arith) in
+          let d = is-same c (length (t .entries)) q in
+          omega arith
+      go (inr q) =
+          let a : rowsIn (getD (snoc (t .entries) (push s x blank)) c blank) ≡ rowsIn (getD (t .entries) c blank) = ap (λ m. rowsIn m) (snoc-off (t .entries) (push s x blank) blank c q) in
+          let d = is-other c (length (t .entries)) q in
+          omega arith
+
+  fed-one : (e c : ℕ) → e < length (t .entries) → entryWeight (absorbed s x e t) c ≡ entryWeight t c + is c e
+  unfolding absorbed withEntries entryWeight entryAt
+  fed-one e c h = go (same? c e)
+    where
+      go : (c ≡ e) ⊎ (c ≢ e) → rowsIn (getD (changeAt (push s x) e (t .entries)) c blank) ≡ rowsIn (getD (t .entries) c blank) + is c e
+      go (inl q) =
+          let a : rowsIn (getD (changeAt (push s x) e (t .entries)) c blank) ≡ suc (rowsIn (getD (t .entries) e blank)) =
+          ap (λ k. rowsIn (getD (changeAt (push s x) e (t .entries)) k blank)) q ∙ ap (λ m. rowsIn m) (change-at (push s x) e blank (t .entries) h)
+          ∙ exact-count (push s x (getD (t .entries) e blank)) (suc (rowsIn (getD (t .entries) e blank))) (push-weigh s x (getD (t .entries) e blank) (rowsIn (getD (t .entries) e blank)) (exact e h .0) (exact e h .1)) in
+          let b : rowsIn (getD (t .entries) c blank) ≡ rowsIn (getD (t .entries) e blank) = ap (λ k. rowsIn (getD (t .entries) k blank)) q in
+          let d = is-same c e q in
+          omega arith
+      go (inr q) =
+          let a : rowsIn (getD (changeAt (push s x) e (t .entries)) c blank) ≡ rowsIn (getD (t .entries) c blank) = ap (λ m. rowsIn m) (change-off (push s x) e c blank (t .entries) q) in
+          let d = is-other c e q in
+          omega arith
+
+  pub joined-one : (l : ℕ) (r : Nearest) → Hit (λ e. e < (length (t .entries))) r → (c : ℕ) → entryWeight (absorbedOrBegun s x l r t) c ≡ entryWeight t c + is c (takerOf s x r t)
+  unfolding absorbedOrBegun takerOf
+  joined-one l Nothing h c = new-one l c
+  joined-one l (Entry e) h c = go (absorbs s x e t)
+    where
+      go : (b : Bool) → entryWeight (cond b (absorbed s x e t) (begun l (push s x blank) t)) c ≡ entryWeight t c + is c (cond b e (length (t .entries)))
+      go true = fed-one e c h
+      go false = new-one l c
+
+-- ---- moves
+
+pub map-occurs : (f : ℕ → ℕ) (c : ℕ) (a : List ℕ) → occurs c (map f a) ≡ over (λ i. is c (f i)) a
+unfolding over occurs
+map-occurs f c [] = refl
+map-occurs f c (i ∷ a) = occurs-cons c (f i) (map f a) ∙ ap (λ z. is c (f i) + z) (map-occurs f c a)
+
+pub over-plus : (f g : ℕ → ℕ) (a : List ℕ) → over (λ i. f i + g i) a ≡ over f a + over g a
+unfolding over
+over-plus f g [] = refl
+over-plus f g (i ∷ a) = let h = over-plus f g a in omega arith
+
+pub over-zero : (a : List ℕ) → over (λ _. 0) a ≡ 0
+unfolding over
+over-zero [] = refl
+over-zero (i ∷ a) = let h = over-zero a in omega arith
+
+module _ (p : Pair) (d : p .one ≢ p .two) where
+  at-two : (i : ℕ) → i ≡ p .two → mergedTo p i ≡ p .one
+  unfolding mergedTo
+  at-two i e = go (eqb i (p .two)) refl
+    where
+      go : (b : Bool) → eqb i (p .two) ≡ b → cond b (p .one) i ≡ p .one
+      go true q = refl
+      go false q = absurd (eq-test i (p .two) false q .1 refl e)
+
+  off-two : (i : ℕ) → i ≢ p .two → mergedTo p i ≡ i
+  unfolding mergedTo
+  off-two i e = go (eqb i (p .two)) refl
+    where
+      go : (b : Bool) → eqb i (p .two) ≡ b → cond b (p .one) i ≡ i
+      go true q = absurd (e (eq-test i (p .two) true q .0 refl))
+      go false q = refl
+
+  pub merge-carries : (v w : ℕ → ℕ) → w (p .one) ≡ v (p .one) + v (p .two) → w (p .two) ≡ 0 → ((c : ℕ) → c ≢ p .one → c ≢ p .two → w c ≡ v c) → Carries (mergedTo p) v w
+  merge-carries v w h1 h2 h3 a h c = go (same? c (p .one)) (same? c (p .two))
+    where
+      go : (c ≡ p .one) ⊎ (c ≢ p .one) → (c ≡ p .two) ⊎ (c ≢ p .two) → w c ≡ occurs c (map (mergedTo p) a)
+      go (inl x) (inl y) = absurd (d (sym x ∙ y))
+      go (inl x) (inr y) =
+          ap w x ∙ h1 ∙ ap (λ z. z + v (p .two)) (h (p .one) ∙ occurs-over (p .one) a) ∙ ap (λ z. over (is (p .one)) a + z) (h (p .two) ∙ occurs-over (p .two) a)
+          ∙ sym (map-occurs (mergedTo p) c a ∙ over-same (λ i. is c (mergedTo p i)) (λ i. is (p .one) i + is (p .two) i) a (λ i o. each i (same? i (p .two))) ∙ over-plus (is (p .one)) (is (p .two)) a)
+        where
+          each : (i : ℕ) → (i ≡ p .two) ⊎ (i ≢ p .two) → is c (mergedTo p i) ≡ is (p .one) i + is (p .two) i
+          each i (inl e) =
+              let f : is c (mergedTo p i) ≡ 1 = is-same c (mergedTo p i) (x ∙ sym (at-two i e)) in
+              let g = is-other (p .one) i (λ z. d (z ∙ e)) in
+              let k = is-same (p .two) i (sym e) in
+              omega arith
+          each i (inr e) =
+              let f : is c (mergedTo p i) ≡ is (p .one) i = ap (λ z. is c z) (off-two i e) ∙ ap (λ z. is z i) x in
+              let k = is-other (p .two) i (λ z. e (sym z)) in
+              omega arith
+      go (inr x) (inl y) =
+          ap w y ∙ h2 ∙ sym (map-occurs (mergedTo p) c a ∙ over-same (λ i. is c (mergedTo p i)) (λ _. 0) a (λ i o. each i (same? i (p .two))) ∙ over-zero a)
+        where
+          each : (i : ℕ) → (i ≡ p .two) ⊎ (i ≢ p .two) → is c (mergedTo p i) ≡ 0
+          each i (inl e) = is-other c (mergedTo p i) (λ z. x (z ∙ at-two i e))
+          each i (inr e) = is-other c (mergedTo p i) (λ z. e (sym (off-two i e) ∙ sym z ∙ y))
+      go (inr x) (inr y) =
+          h3 c x y ∙ h c ∙ occurs-over c a ∙ sym (map-occurs (mergedTo p) c a ∙ over-same (λ i. is c (mergedTo p i)) (is c) a (λ i o. each i (same? i (p .two))))
+        where
+          each : (i : ℕ) → (i ≡ p .two) ⊎ (i ≢ p .two) → is c (mergedTo p i) ≡ is c i
+          each i (inl e) = ap (λ z. is c z) (at-two i e) ∙ is-other c (p .one) x ∙ sym (is-other c i (λ z. y (z ∙ e)))
+          each i (inr e) = ap (λ z. is c z) (off-two i e)
+
+-- ---- dropping
+
+module _ (s : Settings) (u : Tree) (bs : List Bool) (len : length bs ≡ length (u .entries)) where
+  weight-is : (c : ℕ) → getD bs c false ≡ true → entryWeight (dropped bs u) (renumber bs c) ≡ entryWeight u c
+  unfolding entryWeight dropped withEntries withNodes entryAt
+  weight-is c e = ap (λ m. rowsIn m) (keep-at bs (u .entries) c blank len e)
+
+  -- the entry itself goes by the same number
+  pub dropped-to : (c : ℕ) → getD bs c false ≡ true → entryAt (dropped bs u) (renumber bs c) ≡ entryAt u c
+  unfolding dropped withEntries withNodes entryAt
+  dropped-to c e = keep-at bs (u .entries) c blank len e
+
+  len-e : length ((dropped bs u) .entries) ≡ countUp bs
+  unfolding dropped withEntries withNodes
+  len-e = keep-length bs (u .entries) len
+
+  abbrev W : ℕ → ℕ
+  W = entryWeight (dropped bs u)
+
+  pub drop-carries : Carries (renumber bs) (alive bs (entryWeight u)) (entryWeight (dropped bs u))
+  drop-carries a h k = sym (
+      map-occurs (renumber bs) k a
+      ∙ over-sum (λ i. is k (renumber bs i)) (length bs) a inside
+      ∙ sum-same (alive bs (λ i. only (W k) k (renumber bs i))) (λ i. occurs i a * is k (renumber bs i)) (length bs) (λ i q. each i (flag? bs i))
+      ∙ renumber-sum bs (λ j. only (W k) k j)
+      ∙ last (lt? k (countUp bs)))
+    where
+      inside : (i : ℕ) → 0 < occurs i a → i < length bs
+      inside i o = go (flag? bs i)
+        where
+          go : (getD bs i false ≡ true) ⊎ (getD bs i false ≡ false) → i < length bs
+          go (inl e) = up-in bs i e
+          go (inr e) = let p = alive-down bs (entryWeight u) i e in let q = h i in absurd (omega arith)
+
+      each : (i : ℕ) → (getD bs i false ≡ true) ⊎ (getD bs i false ≡ false) → occurs i a * is k (renumber bs i) ≡ alive bs (λ i. only (W k) k (renumber bs i)) i
+      each i (inr e) = ap (λ z. z * is k (renumber bs i)) (sym (h i) ∙ alive-down bs (entryWeight u) i e) ∙ zero-mul (is k (renumber bs i)) ∙ sym (alive-down bs (λ i. only (W k) k (renumber bs i)) i e)
+      each i (inl e) = by (same? (renumber bs i) k) ∙ sym (alive-up bs (λ i. only (W k) k (renumber bs i)) i e)
+        where
+          by : (renumber bs i ≡ k) ⊎ (renumber bs i ≢ k) → occurs i a * is k (renumber bs i) ≡ only (W k) k (renumber bs i)
+          by (inl q) =
+              ap (λ z. occurs i a * z) (is-same k (renumber bs i) (sym q)) ∙ mul-one (occurs i a) ∙ sym (h i) ∙ alive-up bs (entryWeight u) i e ∙ sym (weight-is i e) ∙ ap (λ z. W z) q
+              ∙ sym (only-at (W k) k (renumber bs i) q)
+          by (inr q) = ap (λ z. occurs i a * z) (is-other k (renumber bs i) (λ z. q (sym z))) ∙ mul-zero (occurs i a) ∙ sym (only-off (W k) k (renumber bs i) q)
+
+      last : (k < countUp bs) ⊎ (countUp bs ≤ k) → sumTo (λ j. only (W k) k j) (countUp bs) ≡ W k
+      last (inl q) = sum-only (W k) k (countUp bs) q
+      last (inr q) = sum-none (λ j. only (W k) k j) (countUp bs) (λ j r. only-off (W k) k j (λ z. clash j r z)) ∙ sym (weight-past (dropped bs u) k (let z = len-e in omega arith))
+        where
+          clash : (j : ℕ) → j < countUp bs → j ≡ k → ⊥
+          clash j r z = omega arith
+
+-- ---- places in a list
+
+pub get-occurs : (l : List ℕ) (k d : ℕ) → k < length l → 0 < occurs (getD l k d) l
+get-occurs [] k d h = absurd (not-suc-le-zero h)
+get-occurs (x ∷ l) zero d h = let p = occurs-cons x x l in let q = is-same x x refl in omega arith
+get-occurs (x ∷ l) (suc k) d h = let p = occurs-cons (getD l k d) x l in let q = get-occurs l k d (le-of-suc-le-suc h) in omega arith
+
+place-here : (x : ℕ) (l : List ℕ) (i : ℕ) → i ≡ x → placeIn (x ∷ l) i ≡ 0
+unfolding placeIn
+place-here x l i e = go (eqb i x) refl
+  where
+    go : (b : Bool) → eqb i x ≡ b → cond b 0 (suc (placeIn l i)) ≡ 0
+    go true q = refl
+    go false q = absurd (eq-test i x false q .1 refl e)
+
+place-there : (x : ℕ) (l : List ℕ) (i : ℕ) → i ≢ x → placeIn (x ∷ l) i ≡ suc (placeIn l i)
+unfolding placeIn
+place-there x l i e = go (eqb i x) refl
+  where
+    go : (b : Bool) → eqb i x ≡ b → cond b 0 (suc (placeIn l i)) ≡ suc (placeIn l i)
+    go true q = absurd (e (eq-test i x true q .0 refl))
+    go false q = refl
+
+pub place-get : (l : List ℕ) (i d : ℕ) → 0 < occurs i l → getD l (placeIn l i) d ≡ i
+place-get [] i d h = let z : occurs i [] ≡ 0 = unfold occurs in refl in absurd (omega arith)
+place-get (x ∷ l) i d h = go (same? i x) (λ o. place-get l i d o)
+  where
+    go : (i ≡ x) ⊎ (i ≢ x) → (0 < occurs i l → getD l (placeIn l i) d ≡ i) → getD (x ∷ l) (placeIn (x ∷ l) i) d ≡ i
+    go (inl e) ih = ap (λ k. getD (x ∷ l) k d) (place-here x l i e) ∙ sym e
+    go (inr e) ih = ap (λ k. getD (x ∷ l) k d) (place-there x l i e) ∙ ih (let p = occurs-cons i x l in let q = is-other i x e in omega arith)
+
+get-place : (l : List ℕ) (k d : ℕ) → k < length l → occurs (getD l k d) l ≡ 1 → placeIn l (getD l k d) ≡ k
+get-place [] k d h o = absurd (not-suc-le-zero h)
+get-place (x ∷ l) zero d h o = place-here x l x refl
+get-place (x ∷ l) (suc k) d h o =
+    let p = occurs-cons (getD l k d) x l in
+    let q = get-occurs l k d (le-of-suc-le-suc h) in
+    let z : is (getD l k d) x ≡ 0 = omega arith in
+    place-there x l (getD l k d) (λ e. clash z (is-same (getD l k d) x e)) ∙ ap suc (get-place l k d (le-of-suc-le-suc h) (omega arith))
+  where
+    clash : is (getD l k d) x ≡ 0 → is (getD l k d) x ≡ 1 → ⊥
+    clash a b = omega arith
+
+-- each owner is in l once, and not n: row by row, place k is the number that stands there
+pub place-occurs : (l : List ℕ) (n k : ℕ) (a : List ℕ) → ((i : ℕ) → 0 < occurs i a → (occurs i l ≡ 1) × (i ≢ n)) → occurs k (map (placeIn l) a) ≡ occurs (getD l k n) a
+place-occurs l n k a h = map-occurs (placeIn l) k a ∙ over-same (λ i. is k (placeIn l i)) (is (getD l k n)) a (λ i o. each i (h i o .0) (h i o .1) (same? k (placeIn l i)) (lt? k (length l))) ∙ sym (occurs-over (getD l k n) a)
+  where
+    each : (i : ℕ) → occurs i l ≡ 1 → i ≢ n → (k ≡ placeIn l i) ⊎ (k ≢ placeIn l i) → (k < length l) ⊎ (length l ≤ k) → is k (placeIn l i) ≡ is (getD l k n) i
+    each i o q (inl e) f = is-same k (placeIn l i) e ∙ sym (is-same (getD l k n) i (ap (λ z. getD l z n) e ∙ place-get l i n (let y = o in omega arith)))
+    each i o q (inr e) (inl f) = is-other k (placeIn l i) e ∙ sym (is-other (getD l k n) i (λ z. e (sym (get-place l k n f (ap (λ y. occurs y l) z ∙ o)) ∙ ap (λ y. placeIn l y) z)))
+    each i o q (inr e) (inr f) = is-other k (placeIn l i) e ∙ sym (is-other (getD l k n) i (λ z. q (sym z ∙ past-end l n k f)))

@@ -1,0 +1,4 @@
+-- A refit keeps the invariant and begins the account anew.
+pub mod Poured
+pub mod Round
+pub mod Refitted

@@ -1,0 +1,89 @@
+-- Room at every moment of a row's growing, and of a reinsertion, which rebuild and refit share. All else in a call adds no node, no entry and lengthens no list.
+use Prim.Native.Nat.{ℕ, suc, _+_, _≤_, _<_}
+use mathlib.Core.Path.{_≡_, ap, _∙_}
+use mathlib.Core.Logic.{inl, inr}
+use mathlib.Core.List.{List, _∷_}
+use native.Mathlib.Omega.{arith}
+use lib.ListN.{length}
+use lib.Ieee.{Float}
+use Rattle.binary64.specs.Whole.{most}
+use Rattle.feature.specs.declared.Summary.{Summary}
+use Rattle.head.specs.declared.Settings.{Settings}
+use Rattle.head.specs.Limits.{Sized}
+use Rattle.head.specs.Sizes.{entryCap}
+use Rattle.rules.specs.Tree.{Tree, nodeAt, cap, push, merge, distTo, distBetween, withNodes, withEntries}
+use Rattle.rules.specs.Descent.{leafFor, alongPath}
+use Rattle.rules.specs.Split.{settled}
+use Rattle.rules.specs.Insert.{begun, grownAt, grown}
+use Rattle.rules.specs.Reinsert.{replaced}
+use Rattle.rules.specs.Check.{rowsIn, totalOf}
+use Rattle.laws.specs.Counters.{splitUp-entries}
+use Rattle.laws.specs.Counting.Lists.{snoc-length}
+use Rattle.laws.specs.Invariant.Sound.{Caps, caps-of}
+use Rattle.laws.specs.Inserting.Grown.{path-length, path-leaf}
+use Rattle.laws.specs.Inserting.First.{Holding, Ready, rowPlaced, row-placed, entryPlaced, entry-placed, place-ready}
+use Rattle.laws.specs.Rebuilding.Reinsert.{Rows, place-entries}
+use Rattle.laws.specs.Room.Nodes.{Roomy, Splitting, splitting-roomy}
+use Rattle.laws.specs.Room.Kept.{one-more, holding-room}
+use Rattle.laws.specs.ForCode.{sure-of, path-kids}
+use Rattle.laws.specs.Check.Both.{AtRest}
+
+-- ---- a row's growing
+
+-- the trees that it goes through
+pub data Growing (s : Settings) (x : List Float) (t : Tree) : Tree → Type 0 where
+  start : Growing s x t t
+  pushed : Growing s x t (alongPath (push s x) (leafFor t (λ c. distTo s c x)) t)
+  splits : {u : Tree} → Splitting s (leafFor t (λ c. distTo s c x)) (rowPlaced s x t) u → Growing s x t u
+
+holding-roomy : (s : Settings) (t : Tree) (rows : ℕ) → Holding s t rows → length (t .entries) ≤ s .«max_leaves» + 1 → Roomy s t
+unfolding entryCap
+holding-roomy s t rows k h = let u = sure-of s t rows k in record { nodes = holding-room s t rows k h; entries = h; lists = (λ i l. let q = u .fits i l in omega arith) }
+
+path-roomy : {s : Settings} (F : Summary → Summary) (l : ℕ) (t : Tree) → Roomy s t → Roomy s (alongPath F l t)
+path-roomy {s} F l t r =
+    let n = path-length F l t in
+    let a = r .nodes in
+    record {
+      nodes = omega arith;
+      entries = (unfold alongPath withNodes in r .entries);
+      lists = (λ i q. let b = r .lists i (omega arith) in let c : length (nodeAt (alongPath F l t) i .list) ≡ length (nodeAt t i .list) = ap (λ k. length k) (path-kids F l t i) in let d : cap s (nodeAt (alongPath F l t) i .leaf) ≡ cap s (nodeAt t i .leaf) = ap (cap s) (path-leaf F l t i) in omega arith);
+    }
+
+placed-entries : (s : Settings) (x : List Float) (t : Tree) → (grown s x t) .entries ≡ (rowPlaced s x t) .entries
+unfolding grown grownAt settled
+placed-entries s x t = splitUp-entries s (length ((rowPlaced s x t) .nodes)) (leafFor t (λ c. distTo s c x)) (rowPlaced s x t)
+
+pub growing-roomy : {s : Settings} → Sized s → (x : List Float) (t : Tree) {u : Tree} {rows : ℕ} → AtRest s t rows → rows < most → Growing s x t u → Roomy s u
+growing-roomy {s} z x t {u} {rows} r h start = holding-roomy s t rows (r .holds) (let q = r .few in omega arith)
+growing-roomy {s} z x t {u} {rows} r h pushed = path-roomy (push s x) (leafFor t (λ c. distTo s c x)) t (holding-roomy s t rows (r .holds) (let q = r .few in omega arith))
+growing-roomy {s} z x t {u} {rows} r h (splits w) =
+    let p = row-placed s x t rows (caps-of z) (r .holds) h in
+    let n : length ((grown s x t) .entries) ≡ length ((rowPlaced s x t) .entries) = ap (λ l. length l) (placed-entries s x t) in
+    let m = one-more s x t in
+    let q = r .few in
+    splitting-roomy (caps-of z) (p .1 .looking) (p .1 .here) (omega arith) w
+
+-- ---- a reinsertion: the entries es placed one after the other from t on
+
+pub data Replacing (s : Settings) : List Summary → Tree → Tree → Type 0 where
+  start : {es : List Summary} {t : Tree} → Replacing s es t t
+  pushed : {e : Summary} {es : List Summary} {t : Tree} → Replacing s (e ∷ es) t (alongPath (λ c. merge s c e) (leafFor t (λ c. distBetween s c e)) t)
+  splits : {e : Summary} {es : List Summary} {t u : Tree} → Splitting s (leafFor t (λ c. distBetween s c e)) (entryPlaced s e t) u → Replacing s (e ∷ es) t u
+  next : {e : Summary} {es : List Summary} {t u : Tree} → Replacing s es (replaced s e t) u → Replacing s (e ∷ es) t u
+
+ready-holds : (s : Settings) (t : Tree) (total : ℕ) → Ready s t total → Holding s t total
+ready-holds s t total (inl q) = inl ((q .0, q .1, q .2, q .3, inl (q .4 .0), q .5), q .6)
+ready-holds s t total (inr w) = inr w
+
+pub replacing-roomy : {s : Settings} → Caps s → (es : List Summary) (t : Tree) {u : Tree} (total : ℕ) → Ready s t total → Rows es → total + totalOf es ≤ most → length (t .entries) + length es ≤ s .«max_leaves» + 1 → Replacing s es t u → Roomy s u
+unfolding totalOf
+replacing-roomy {s} c es t total k r b h start = holding-roomy s t total (ready-holds s t total k) (omega arith)
+replacing-roomy {s} c (e ∷ es) t total k r b h pushed = path-roomy (λ d. merge s d e) (leafFor t (λ d. distBetween s d e)) t (holding-roomy s t total (ready-holds s t total k) (omega arith))
+replacing-roomy {s} c (e ∷ es) t total k r b h (splits w) =
+    let p = entry-placed s e t (rowsIn e) total k (r .0) (r .1) (omega arith) in
+    let n : length ((entryPlaced s e t) .entries) ≡ suc (length (t .entries)) = unfold begun withNodes withEntries alongPath in snoc-length (t .entries) e in
+    splitting-roomy c (p .1 .looking) (p .1 .here) (omega arith) w
+replacing-roomy {s} c (e ∷ es) t total k r b h (next w) =
+    let n : length ((replaced s e t) .entries) ≡ suc (length (t .entries)) = ap (λ l. length l) (place-entries s e t) ∙ snoc-length (t .entries) e in
+    replacing-roomy c es (replaced s e t) (total + rowsIn e) (inr (place-ready s e t (rowsIn e) total c k (r .0) (r .1) (omega arith))) (r .2) (omega arith) (omega arith) w

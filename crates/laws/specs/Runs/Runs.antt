@@ -1,0 +1,154 @@
+-- Demand 3 at the end of any run: a fresh tree, and any accepted calls but creation, each on what the last one left.
+use Prim.Native.Nat.{ℕ, zero, suc, _+_, _≤_, _<_}
+use mathlib.Core.Path.{_≡_, refl, sym, ap, _∙_, subst}
+use mathlib.Core.Logic.{inl, inr}
+use mathlib.Core.Bool.{Bool, true, false, cond}
+use mathlib.Core.List.{List, [], _∷_, _++_}
+use native.Mathlib.Omega.{arith}
+use lib.ListN.{length, length-append}
+use lib.Ieee.{Float}
+use lib.Dec.{eqb}
+use mathlib.Core.Bool.{not}
+use Rattle.binary64.specs.Whole.{most}
+use Rattle.feature.specs.Summaries.{blank}
+use Rattle.head.specs.declared.Settings.{Settings}
+use Rattle.head.specs.Limits.{Sized}
+use Rattle.rules.specs.declared.Verdict.the-variants.{Passes}
+use Rattle.rules.specs.Lists.{occurs}
+use Rattle.rules.specs.Tree.{Tree, fresh, entryAt}
+use Rattle.rules.specs.Rebuild.{insertedAll}
+use Rattle.rules.specs.Refit.{refitted}
+use Rattle.rules.specs.Check.{checked, totalOf, leafLists}
+use Rattle.laws.specs.Counting.Count.{below, below-in, below-out}
+use Rattle.laws.specs.Invariant.Sound.{entryWeight}
+use Rattle.laws.specs.Inserting.First.{Holding}
+use Rattle.laws.specs.Check.Passing.{entries-sum}
+use Rattle.laws.specs.Check.Accept.{once-back}
+use Rattle.laws.specs.Check.Both.{AtRest, none-total, resting-passes, passing-linked}
+use Rattle.laws.specs.Ownership.Owner.{ownersAll, ownersRefit, Account}
+use Rattle.laws.specs.Ownership.Rows.{fresh-owned}
+use Rattle.laws.specs.Ownership.Account.{owned-sum, owned-account, fresh-account}
+use Rattle.laws.specs.Runs.Threshold.{Fine, all-fine, refitted-fine}
+use Rattle.laws.specs.Runs.Calls.{effective, Owning, batch-owning, effective-owning, idle-refit, fresh-rests}
+
+-- the rows that a refit leaves to be accounted for: its own, if it is effective
+unfoldable pub rowsRefit : List (List Float) → Tree → List (List Float) → List (List Float)
+rowsRefit xs t ys = cond (effective xs t) xs ys
+
+-- a run from a fresh tree of threshold h: the tree that it leaves, the rows since the last effective refit with that refit's own, and whose each of these rows is.
+-- A row is a batch of one. Calls that change nothing are left out, and so are refused ones.
+pub data Run (s : Settings) (h : Float) : Tree → List (List Float) → List ℕ → Type 0 where
+  created : Run s h (fresh h) [] []
+  insert : {t : Tree} {ys : List (List Float)} {a : List ℕ} (xs : List (List Float)) → totalOf (t .entries) + length xs ≤ most → Run s h t ys a → Run s h (insertedAll s xs t) (ys ++ xs) (ownersAll s xs t a)
+  refit : {t : Tree} {ys : List (List Float)} {a : List ℕ} (xs : List (List Float)) → (0 < length (t .entries) → length xs ≤ most) → Run s h t ys a → Run s h (refitted s xs t) (rowsRefit xs t ys) (ownersRefit s xs t a)
+
+-- ---- what holds throughout
+
+rest-total : {s : Settings} {t : Tree} {rows : ℕ} → AtRest s t rows → totalOf (t .entries) ≡ rows
+rest-total {s} {t} {rows} r = go (r .holds)
+  where
+    go : Holding s t rows → totalOf (t .entries) ≡ rows
+    go (inl b) = ap (λ u. totalOf (u .entries)) (b .0 .5) ∙ (unfold totalOf in sym (b .1))
+    go (inr w) = unfold entryWeight entryAt in (entries-sum blank (t .entries) ∙ w .2)
+
+pub effective-some : (xs : List (List Float)) (t : Tree) → effective xs t ≡ true → 0 < length (t .entries)
+unfolding effective
+effective-some [] t e = let z : _≡_ {A = ℕ} 0 1 = cc in absurd (omega arith)
+effective-some (x ∷ xs) t e = go (length (t .entries)) e
+  where
+    go : (n : ℕ) → not (eqb n 0) ≡ true → 0 < n
+    go zero e = let z : _≡_ {A = ℕ} 0 1 = cc in absurd (omega arith)
+    go (suc n) e = omega arith
+
+refit-owning : {s : Settings} → Sized s → (xs : List (List Float)) (t : Tree) (ys : List (List Float)) (a : List ℕ) → (0 < length (t .entries) → length xs ≤ most) → Owning s t (length ys) a → Owning s (refitted s xs t) (length (rowsRefit xs t ys)) (ownersRefit s xs t a)
+unfolding rowsRefit
+refit-owning {s} z xs t ys a room o = go (effective xs t) refl
+  where
+    go : (b : Bool) → effective xs t ≡ b → Owning s (refitted s xs t) (length (cond b xs ys)) (ownersRefit s xs t a)
+    go true e = effective-owning z xs t (length ys) a (o .rests) e (room (effective-some xs t e))
+    go false e = let q = idle-refit s xs t a e in subst (λ u. Owning s u (length ys) (ownersRefit s xs t a)) (sym (q .0)) (subst (λ c. Owning s t (length ys) c) (sym (q .1)) o)
+
+module _ {s : Settings} (z : Sized s) {h : Float} where
+  pub run-owning : {t : Tree} {ys : List (List Float)} {a : List ℕ} → Run s h t ys a → Owning s t (length ys) a
+  run-owning created = record { rests = fresh-rests z h; owned = fresh-owned h }
+  run-owning (insert {t} {ys} {a} xs room r) =
+      let o = run-owning r in
+      let e = rest-total (o .rests) in
+      subst (λ n. Owning s (insertedAll s xs t) n (ownersAll s xs t a)) (sym (length-append ys xs)) (batch-owning z xs t (length ys) a o (omega arith))
+  run-owning (refit {t} {ys} {a} xs room r) = refit-owning z xs t ys a room (run-owning r)
+
+-- the account is as long as the rows
+pub owned-length : {s : Settings} {t : Tree} {rows : ℕ} {a : List ℕ} → Owning s t rows a → length a ≡ rows
+unfolding entryWeight entryAt
+owned-length {s} {t} {rows} {a} o = owned-sum t a (o .owned) ∙ sym (entries-sum blank (t .entries)) ∙ rest-total (o .rests)
+
+some-rows : {s : Settings} {t : Tree} {rows : ℕ} {a : List ℕ} → Owning s t rows a → 0 < rows → length (t .entries) ≡ 0 → ⊥
+some-rows {s} {t} o p e = let q = none-total (t .entries) e in let r = rest-total (o .rests) in omega arith
+
+-- a tree without entries is the one that was created
+module _ {s : Settings} (z : Sized s) {h : Float} where
+  run-empty : {t : Tree} {ys : List (List Float)} {a : List ℕ} → Run s h t ys a → length (t .entries) ≡ 0 → t ≡ fresh h
+  run-empty created e = refl
+  run-empty (insert {t} {ys} {a} xs room r) e = go xs room (λ q. run-empty r q) e
+    where
+      go : (xs : List (List Float)) → totalOf (t .entries) + length xs ≤ most → (length (t .entries) ≡ 0 → t ≡ fresh h) → length ((insertedAll s xs t) .entries) ≡ 0 → insertedAll s xs t ≡ fresh h
+      go [] room ih e = unfold insertedAll in ih e
+      go (x ∷ xs) room ih e = absurd (some-rows (run-owning z (insert (x ∷ xs) room r)) (let q = length-append ys (x ∷ xs) in omega arith) e)
+  run-empty (refit {t} {ys} {a} xs room r) e = go (effective xs t) refl (λ q. run-empty r q)
+    where
+      go : (b : Bool) → effective xs t ≡ b → (length (t .entries) ≡ 0 → t ≡ fresh h) → refitted s xs t ≡ fresh h
+      go true q ih =
+          absurd (some-rows (run-owning z (refit xs room r)) (unfold rowsRefit in subst (λ b. 0 < length (cond b xs ys)) (sym q) (rows-some xs q)) e)
+        where
+          rows-some : (xs : List (List Float)) → effective xs t ≡ true → 0 < length xs
+          rows-some [] q = let z : _≡_ {A = ℕ} 0 1 = unfold effective in cc in absurd (omega arith)
+          rows-some (x ∷ xs) q = omega arith
+      go false q ih = let i = idle-refit s xs t a q .0 in i ∙ ih (subst (λ u. length (u .entries) ≡ 0) i e)
+
+  run-account : {t : Tree} {ys : List (List Float)} {a : List ℕ} → Run s h t ys a → Account t a
+  run-account {t} {ys} {a} r = let o = run-owning z r in go o (o .rests .holds)
+    where
+      go : Owning s t (length ys) a → Holding s t (length ys) → Account t a
+      go o (inl b) =
+          let e : t ≡ fresh h = run-empty r (ap (λ u. length (u .entries)) (b .0 .5)) in
+          let l : length a ≡ 0 = owned-length o ∙ b .1 in
+          subst (λ u. Account u a) (sym e) (subst (λ c. Account (fresh h) c) (nil-of a l) (fresh-account h))
+        where
+          nil-of : (c : List ℕ) → length c ≡ 0 → [] ≡ c
+          nil-of [] e = refl
+          nil-of (x ∷ c) e = absurd (omega arith)
+      go o (inr w) = owned-account s t (length ys) a w (o .owned)
+
+-- ---- the promise
+
+pub record Promise (s : Settings) (t : Tree) (ys : List (List Float)) (a : List ℕ) : Type 0 where
+  -- at most max_leaves entries
+  pub few : length (t .entries) ≤ s .«max_leaves»
+  -- each listed once, and nothing else listed
+  pub once : (c : ℕ) → c < length (t .entries) → occurs c (leafLists (t .nodes)) ≡ 1
+  pub none : (c : ℕ) → length (t .entries) ≤ c → occurs c (leafLists (t .nodes)) ≡ 0
+  -- each row has its place in the account
+  pub each : length a ≡ length ys
+  -- which gives it one entry, each entry the count of its rows as weight, and each node the count of rows beneath it
+  pub account : Account t a
+  pub passes : checked s t ≡ Passes
+
+pub run-keeps : {s : Settings} → Sized s → {h : Float} {t : Tree} {ys : List (List Float)} {a : List ℕ} → Run s h t ys a → Promise s t ys a
+run-keeps {s} z {h} {t} {ys} {a} r =
+    let o = run-owning z r in
+    let ok = resting-passes s t (length ys) (o .rests) in
+    let listed : (c : ℕ) → occurs c (leafLists (t .nodes)) ≡ below c (length (t .entries)) = once-back (length (t .entries)) (leafLists (t .nodes)) (passing-linked s t ok) in
+    record {
+      few = o .rests .few;
+      once = (λ c h. listed c ∙ below-in c (length (t .entries)) h);
+      none = (λ c h. listed c ∙ below-out c (length (t .entries)) h);
+      each = owned-length o;
+      account = run-account z r;
+      passes = ok;
+    }
+
+-- the threshold stays finite and not below 0, so that a run can always go on
+pub run-fine : {s : Settings} {h : Float} {t : Tree} {ys : List (List Float)} {a : List ℕ} → Run s h t ys a → Fine h → Fine (t .threshold)
+run-fine created f = unfold fresh in f
+run-fine {s} (insert {t} xs room r) f = all-fine s xs t (run-fine r f)
+run-fine {s} (refit {t} xs room r) f = refitted-fine s xs t (run-fine r f)

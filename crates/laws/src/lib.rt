@@ -1,0 +1,1 @@
+// Demand 3 over the rules: theorems only, no code.

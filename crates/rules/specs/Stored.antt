@@ -95,22 +95,22 @@ module _ (s : Settings) (z : Sized s) where
 
   -- ---- a node's links
 
-  parent-back : (p : Option ℕ) → (p ≡ some noParent → ⊥) → parentIn (parentOut p) ≡ p
+  pub parent-back : (p : Option ℕ) → (p ≡ some noParent → ⊥) → parentIn (parentOut p) ≡ p
   unfolding parentIn parentOut
   parent-back none h = refl
   parent-back (some p) h = rw (ne-eqb p noParent (λ e. h (ap some e)))
 
-  leaf-back : (b : Bool) (n : ℕ) → leafIn (kindOut b n) ≡ b
+  pub leaf-back : (b : Bool) (n : ℕ) → leafIn (kindOut b n) ≡ b
   unfolding leafIn kindOut
   leaf-back true n = eq-eqb ((2 * n + 1) % 2) 1 (omega arith)
   leaf-back false n = ne-eqb ((2 * n) % 2) 1 (λ e. omega arith)
 
-  length-back : (b : Bool) (n : ℕ) → n ≤ blockWidth s - 2 → lengthIn s (kindOut b n) ≡ n
+  pub length-back : (b : Bool) (n : ℕ) → n ≤ blockWidth s - 2 → lengthIn s (kindOut b n) ≡ n
   unfolding lengthIn kindOut
   length-back true n h = omega arith
   length-back false n h = omega arith
 
-  block-long : (n : Node) → length (n .list) ≤ blockWidth s - 2 → length (blockOut s n) ≡ blockWidth s
+  pub block-long : (n : Node) → length (n .list) ≤ blockWidth s - 2 → length (blockOut s n) ≡ blockWidth s
   unfolding blockOut blockWidth
   block-long n h = length-filled (blockWidth s) 0 (parentOut (n .parent) ∷ kindOut (n .leaf) (length (n .list)) ∷ n .list) (omega arith)
 

@@ -1,7 +1,7 @@
 -- What the laws say of these steps, at a few trees, computed.
 use Prim.Native.Nat.{ℕ}
 use mathlib.Core.Path.{_≡_, refl}
-use mathlib.Core.Bool.{Bool, true}
+use mathlib.Core.Bool.{true}
 use mathlib.Core.List.{List, [], _∷_, map}
 use lib.Dec.{leb}
 use lib.ListN.{length}
@@ -12,7 +12,6 @@ use Rattle.feature.specs.declared.Feature.the-variants.{Spherical}
 use Rattle.distance.specs.declared.Distance.the-variants.{CentroidEuclidean}
 use Rattle.head.specs.declared.Settings.{Settings}
 use Rattle.rules.specs.declared.Nearest.the-variants.{Entry}
-use Rattle.rules.specs.Lists.{snoc}
 use Rattle.rules.specs.Tree.{Tree, push, distTo, fresh, withEntries}
 use Rattle.rules.specs.Descent.{leafFor, alongPath}
 use Rattle.rules.specs.Split.{splitUp, crowned}
@@ -22,13 +21,14 @@ use Rattle.rules.specs.Rebuild.{Merging, renumber, dropped, withMerges, inserte
 use Rattle.rules.specs.Refit.{route}
 use Rattle.rules.specs.Check.{linked}
 use Rattle.rules.specs.Computes.{computes}
-use Rattle.laws.specs.Ownership.Owner.{takerOf, taker, mergedTo, mergedInto, placeIn, reinsertedTo, rebalancedTo, compactedTo, mergedByTo, mergedWithTo, rebuiltTo, ownersIn, ownersAll}
+use Rattle.laws.specs.Ownership.Owner.{takerOf, taker, mergedTo, placeIn, reinsertedTo, ownersIn, ownersAll}
 use Rattle.bites.specs.Told.{told}
 use Rattle.bites.specs.Steps.{batch, joining, splitting, merging, rebuilding, reinserting, pouring}
 
 -- one channel, branching 2
 abbrev with : ℕ → ℕ → Settings
-with leafCap maxLeaves = record { dim = 1; branching = 2; «leaf_cap» = leafCap; «max_leaves» = maxLeaves; feature = Spherical; dist = CentroidEuclidean; abs = CentroidEuclidean }
+with leafCap maxLeaves =
+    record { dim = 1; branching = 2; «leaf_cap» = leafCap; «max_leaves» = maxLeaves; feature = Spherical; dist = CentroidEuclidean; abs = CentroidEuclidean }
 
 abbrev 0r : List Float
 0r = ofBits binary64 0 ∷ []
@@ -58,7 +58,8 @@ unfolding computes told batch takerOf taker ownersIn ownersAll
 batch-owns = refl
 
 -- a row that is not within the threshold of the nearest entry begins one
-joining-owns : told (joining (with 2 24) 10r 0 (Entry 0) (insertedAll (with 2 24) (0r ∷ []) (fresh f0))) (0 ∷ takerOf (with 2 24) 10r (Entry 0) (insertedAll (with 2 24) (0r ∷ []) (fresh f0)) ∷ []) ≡ true
+joining-owns : told (joining (with 2 24) 10r 0 (Entry 0) (insertedAll (with 2 24) (0r ∷ []) (fresh f0)))
+    (0 ∷ takerOf (with 2 24) 10r (Entry 0) (insertedAll (with 2 24) (0r ∷ []) (fresh f0)) ∷ []) ≡ true
 unfolding computes told joining takerOf
 joining-owns = refl
 
@@ -79,7 +80,8 @@ unfolding computes told merging mergedTo
 merging-owns = refl
 
 -- each row of a refit goes to one entry, the NaN row too
-pouring-owns : told (withEntries (pouring (with 2 24) two-leaves (0r ∷ (nan ∷ []) ∷ 10r ∷ []) (blank ∷ blank ∷ blank ∷ [])) two-leaves) (map (route (with 2 24) two-leaves) (0r ∷ (nan ∷ []) ∷ 10r ∷ [])) ≡ true
+pouring-owns : told (withEntries (pouring (with 2 24) two-leaves (0r ∷ (nan ∷ []) ∷ 10r ∷ []) (blank ∷ blank ∷ blank ∷ [])) two-leaves)
+    (map (route (with 2 24) two-leaves) (0r ∷ (nan ∷ []) ∷ 10r ∷ [])) ≡ true
 unfolding computes told pouring
 pouring-owns = refl
 

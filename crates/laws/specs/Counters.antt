@@ -1,4 +1,5 @@
--- What a step leaves alone: splits and the refold touch the nodes and the root only; threshold, rebuild count and merged total change in a rebuild's merges only.
+-- What a step leaves alone: splits and the refold touch the nodes and the root only; threshold,
+-- rebuild count and merged total change in a rebuild's merges only.
 use Prim.Native.Nat.{ℕ, zero, suc}
 use mathlib.Core.Path.{_≡_, refl, _∙_}
 use mathlib.Core.Bool.{Bool, true, false, not, _&&_}
@@ -24,7 +25,8 @@ use Rattle.rules.specs.Refit.{reaccumulated, used, anyHollow, refitRounds, refi
 use Rattle.laws.specs.Counting.Count.{either}
 
 module _ {B : Type 0} (f : Tree → B) (nodes : (ns : List Node) (t : Tree) → f (withNodes ns t) ≡ f t) (root : (r : ℕ) (t : Tree) → f (withRoot r t) ≡ f t) where
-  next-keeps : (s : Settings) (go : ℕ → Tree → Tree) (i j : ℕ) (o : Option ℕ) (u : Tree) → ((p : ℕ) (v : Tree) → f (go p v) ≡ f v) → f (splitNext s go i j o u) ≡ f u
+  next-keeps : (s : Settings) (go : ℕ → Tree → Tree) (i j : ℕ) (o : Option ℕ) (u : Tree) → ((p : ℕ) (v : Tree) → f (go p v) ≡ f v)
+      → f (splitNext s go i j o u) ≡ f u
   unfolding splitNext crowned
   next-keeps s go i j none u h = root _ _ ∙ nodes _ _
   next-keeps s go i j (some p) u h = h p _ ∙ nodes _ _
@@ -107,7 +109,11 @@ rounds-counters s xs (suc k) r t =
     u = dropped alive (withEntries (reaccumulated s t xs) t)
 
     go : (p q : Bool) → counters (refitRounds s xs k (suc r) (reinserted s u)) ≡ counters t
-        → counters (elim p as (λ _. Tree) [ true ↦ withEntries (reaccumulated s t xs) t | false ↦ elim q as (λ _. Tree) [ true ↦ u | false ↦ refitRounds s xs k (suc r) (reinserted s u) ] ]) ≡ counters t
+        → counters (elim p as (λ _. Tree) [
+          | true ↦ withEntries (reaccumulated s t xs) t
+          | false ↦ elim q as (λ _. Tree)
+              [ true ↦ u | false ↦ refitRounds s xs k (suc r) (reinserted s u) ]
+        ]) ≡ counters t
     go true q ih = refl
     go false true ih = refl
     go false false ih = ih
@@ -118,4 +124,5 @@ unfolding refitted
 refitted-counters s [] t = refl
 refitted-counters s (x ∷ xs) t =
     let v = refitRounds s (x ∷ xs) (length (t .entries)) 0 t in
-    either (λ u. counters u ≡ counters t) (eqb (length (t .entries)) 0) t (refolded s v) refl (refolded-counters s v ∙ rounds-counters s (x ∷ xs) (length (t .entries)) 0 t)
+    either (λ u. counters u ≡ counters t) (eqb (length (t .entries)) 0) t (refolded s v) refl (refolded-counters s v
+    ∙ rounds-counters s (x ∷ xs) (length (t .entries)) 0 t)

@@ -1,4 +1,5 @@
--- What code needs of a tree at rest, in one place under names that stay: where lists and parents lead, where a descent ends, the row once placed, room for a node more.
+-- What code needs of a tree at rest, in one place under names that stay: where lists and parents lead, where a descent ends, the row once placed,
+-- room for a node more.
 use Prim.Native.Nat.{ℕ, zero, suc, _+_, _≤_, _<_}
 use mathlib.Core.Path.{_≡_, refl, sym, subst}
 use mathlib.Core.Logic.{inl, inr}
@@ -85,7 +86,8 @@ empty-leaf : (s : Settings) (f : Summary → Float) (z : Summary) (h : Float) (r
 unfolding leafFor descended nodeAt
 empty-leaf s f z h r m = (omega arith, refl)
 
-pub leaf-of : (s : Settings) (t : Tree) (total : ℕ) (f : Summary → Float) → Holding s t total → (leafFor t f < length (t .nodes)) × (nodeAt t (leafFor t f) .leaf ≡ true)
+pub leaf-of : (s : Settings) (t : Tree) (total : ℕ) (f : Summary → Float) → Holding s t total
+    → (leafFor t f < length (t .nodes)) × (nodeAt t (leafFor t f) .leaf ≡ true)
 leaf-of s t total f (inl b) = let q = b .0 in subst (AtLeaf s f) (sym (q .5)) (empty-leaf s f (q .0) (q .1) (q .2) (q .3))
 leaf-of s t total f (inr w) = leaf-found s t f (w .0) nil nil nil (w .1 .links)
 

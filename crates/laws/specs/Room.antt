@@ -2,3 +2,5 @@
 pub mod Nodes
 pub mod Kept
 pub mod Moments
+pub mod Rebuilds
+pub mod Calls

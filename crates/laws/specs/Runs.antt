@@ -1,8 +1,9 @@
--- From creation through any accepted calls.
+-- From creation through any calls.
 pub mod Merged
 pub mod Threshold
 pub mod Calls
 pub mod Runs
 pub mod Lent
+pub mod OneCall
 pub mod Public
 pub mod Once

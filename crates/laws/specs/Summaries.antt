@@ -14,14 +14,16 @@ use Rattle.head.specs.declared.Settings.{Settings}
 use Rattle.rules.specs.declared.Nearest.{Nearest}
 use Rattle.rules.specs.declared.Nearest.the-variants.{Entry, Nothing}
 use Rattle.rules.specs.Lists.{changeAt, snoc, keep, flip, every}
-use Rattle.rules.specs.Tree.{Node, Tree, push, merge, distTo, distBetween, nodeAt, entryAt, blankNode, child, withNodes, withEntries, withRoot, withMerged, summed, listing, adding, under, fresh}
+use Rattle.rules.specs.Tree.{Node, Tree, push, merge, distTo, distBetween, nodeAt, entryAt, blankNode, child}
+use Rattle.rules.specs.Tree.{withNodes, withEntries, withRoot, withMerged, summed, listing, adding, under, fresh}
 use Rattle.rules.specs.Descent.{searched, leafFor, climbed, alongPath}
 use Rattle.rules.specs.Split.{gathered, stays, adopted, half, parted, split, crowned, fitting, splitNext, splitIf, splitUp, settled}
 use Rattle.rules.specs.Insert.{begun, absorbed, absorbs, absorbedOrBegun, placed, grownAt, grown}
 use Rattle.rules.specs.Reinsert.{collected, cleared, replaced, replacedAll, reinserted}
 use Rattle.rules.specs.Refold.{foldBalanced, refoldOne, refoldAll, refolded, preorder}
 use Rattle.rules.specs.Pairs.{Pair, siblings, cousins, sorted}
-use Rattle.rules.specs.Rebuild.{Merging, mergeOne, bothAlive, mergeAll, pruned, dropped, withMerges, rebalanced, compacted, mergedBy, mergedWith, counted, rebuilt, inserted, insertedAll}
+use Rattle.rules.specs.Rebuild.{Merging, mergeOne, bothAlive, mergeAll, pruned, dropped, withMerges, rebalanced}
+use Rattle.rules.specs.Rebuild.{compacted, mergedBy, mergedWith, counted, rebuilt, inserted, insertedAll}
 use Rattle.rules.specs.Refit.{route, poured, reaccumulated, used, anyHollow, refitRounds, refitted}
 use Rattle.laws.specs.Counting.Count.{either}
 use Rattle.laws.specs.Counting.All.{All, all-map, all-at, all-change, all-back, all-take, all-keep, all-drop, all-append, all-set}
@@ -35,7 +37,8 @@ pub record Throughout (Q : Summary → Type 0) (t : Tree) : Type 0 where
   pub nodes : All (OfNode Q) (t .nodes)
   pub entries : All Q (t .entries)
 
-module _ (s : Settings) (Q : Summary → Type 0) (none-q : Q blank) (push-q : (x : List Float) (c : Summary) → Q c → Q (push s x c)) (merge-q : (a b : Summary) → Q a → Q b → Q (merge s a b)) where
+module _ (s : Settings) (Q : Summary → Type 0) (none-q : Q blank) (push-q : (x : List Float) (c : Summary) → Q c → Q (push s x c))
+    (merge-q : (a b : Summary) → Q a → Q b → Q (merge s a b)) where
   node-q : (t : Tree) (i : ℕ) → Throughout Q t → Q (nodeAt t i .summary)
   unfolding nodeAt blankNode
   node-q t i h = all-at (OfNode Q) (t .nodes) i blankNode (h .nodes) none-q
@@ -57,11 +60,13 @@ module _ (s : Settings) (Q : Summary → Type 0) (none-q : Q blank) (push-q : (x
   unfolding withEntries
   entries-q es t e h = record { nodes = h .nodes; entries = e }
 
-  climbed-q : (f : Summary → Summary) → ((c : Summary) → Q c → Q (f c)) → (k : ℕ) (o : Option ℕ) (ns : List Node) → All (OfNode Q) ns → All (OfNode Q) (climbed f k o ns)
+  climbed-q : (f : Summary → Summary) → ((c : Summary) → Q c → Q (f c)) → (k : ℕ) (o : Option ℕ) (ns : List Node) → All (OfNode Q) ns
+      → All (OfNode Q) (climbed f k o ns)
   unfolding climbed summed
   climbed-q f p zero o ns h = h
   climbed-q f p (suc k) none ns h = h
-  climbed-q f p (suc k) (some n) ns h = climbed-q f p k (getD ns n blankNode .parent) (changeAt (summed f) n ns) (all-change (OfNode Q) (summed f) (λ m. p (m .summary)) n ns h)
+  climbed-q f p (suc k) (some n) ns h =
+      climbed-q f p k (getD ns n blankNode .parent) (changeAt (summed f) n ns) (all-change (OfNode Q) (summed f) (λ m. p (m .summary)) n ns h)
 
   path-q : (f : Summary → Summary) → ((c : Summary) → Q c → Q (f c)) → (l : ℕ) (t : Tree) → Throughout Q t → Throughout Q (alongPath f l t)
   unfolding alongPath
@@ -70,7 +75,8 @@ module _ (s : Settings) (Q : Summary → Type 0) (none-q : Q blank) (push-q : (x
   begun-q : (l : ℕ) (e : Summary) (t : Tree) → Q e → Throughout Q t → Throughout Q (begun l e t)
   unfolding begun adding listing withEntries snoc
   begun-q l e t q h =
-      nodes-q (changeAt (adding (length (t .entries))) l (t .nodes)) (withEntries (snoc (t .entries) e) t) (all-change (OfNode Q) (adding (length (t .entries))) (λ m r. r) l (t .nodes) (h .nodes))
+      nodes-q (changeAt (adding (length (t .entries))) l (t .nodes)) (withEntries (snoc (t .entries) e) t)
+      (all-change (OfNode Q) (adding (length (t .entries))) (λ m r. r) l (t .nodes) (h .nodes))
       (entries-q (snoc (t .entries) e) t (all-append Q (t .entries) (e ∷ []) (h .entries) (q, tt)) h)
 
   -- ---- splits
@@ -97,7 +103,8 @@ module _ (s : Settings) (Q : Summary → Type 0) (none-q : Q blank) (push-q : (x
       let two = keep (flip (stays s t n)) (n .list) in
       nodes-q (adopted (n .leaf) (length (t .nodes)) two (snoc (set (t .nodes) i (half s t n one)) (half s t n two))) t
       (adopted-q (n .leaf) (length (t .nodes)) two (snoc (set (t .nodes) i (half s t n one)) (half s t n two))
-      (all-append (OfNode Q) (set (t .nodes) i (half s t n one)) (half s t n two ∷ []) (all-set (OfNode Q) (t .nodes) i (half s t n one) (gathered-q t (n .leaf) one h) (h .nodes)) (gathered-q t (n .leaf) two h, tt))) h
+      (all-append (OfNode Q) (set (t .nodes) i (half s t n one)) (half s t n two ∷ []) (all-set (OfNode Q) (t .nodes) i (half s t n one)
+      (gathered-q t (n .leaf) one h) (h .nodes)) (gathered-q t (n .leaf) two h, tt))) h
 
   crowned-q : (i j : ℕ) (t : Tree) → Throughout Q t → Throughout Q (crowned s i j t)
   unfolding crowned under snoc withRoot withNodes
@@ -105,16 +112,21 @@ module _ (s : Settings) (Q : Summary → Type 0) (none-q : Q blank) (push-q : (x
       let r = length (t .nodes) in
       record {
         nodes = all-append (OfNode Q) (changeAt (under r) j (changeAt (under r) i (t .nodes))) _
-            (all-change (OfNode Q) (under r) (λ m q. q) j (changeAt (under r) i (t .nodes)) (all-change (OfNode Q) (under r) (λ m q. q) i (t .nodes) (h .nodes))) (gathered-q t false (i ∷ j ∷ []) h, tt);
+            (all-change (OfNode Q) (under r) (λ m q. q) j (changeAt (under r) i (t .nodes)) (all-change (OfNode Q) (under r) (λ m q. q) i (t .nodes)
+            (h .nodes))) (gathered-q t false (i ∷ j ∷ []) h, tt);
         entries = h .entries;
       }
 
-  next-q : (go : ℕ → Tree → Tree) (i j : ℕ) (o : Option ℕ) (u : Tree) → ((p : ℕ) (v : Tree) → Throughout Q v → Throughout Q (go p v)) → Throughout Q u → Throughout Q (splitNext s go i j o u)
+  next-q : (go : ℕ → Tree → Tree) (i j : ℕ) (o : Option ℕ) (u : Tree) → ((p : ℕ) (v : Tree) → Throughout Q v → Throughout Q (go p v)) → Throughout Q u
+      → Throughout Q (splitNext s go i j o u)
   unfolding splitNext adding listing
   next-q go i j none u f h = crowned-q i j u h
-  next-q go i j (some p) u f h = f p (withNodes (changeAt (adding j) p (u .nodes)) u) (nodes-q (changeAt (adding j) p (u .nodes)) u (all-change (OfNode Q) (adding j) (λ m r. r) p (u .nodes) (h .nodes)) h)
+  next-q go i j (some p) u f h =
+      f p (withNodes (changeAt (adding j) p (u .nodes)) u)
+      (nodes-q (changeAt (adding j) p (u .nodes)) u (all-change (OfNode Q) (adding j) (λ m r. r) p (u .nodes) (h .nodes)) h)
 
-  if-q : (go : ℕ → Tree → Tree) (i : ℕ) (b : Bool) (t : Tree) → ((p : ℕ) (v : Tree) → Throughout Q v → Throughout Q (go p v)) → Throughout Q t → Throughout Q (splitIf s go i b t)
+  if-q : (go : ℕ → Tree → Tree) (i : ℕ) (b : Bool) (t : Tree) → ((p : ℕ) (v : Tree) → Throughout Q v → Throughout Q (go p v)) → Throughout Q t
+      → Throughout Q (splitIf s go i b t)
   unfolding splitIf
   if-q go i true t f h = h
   if-q go i false t f h = next-q go i (length (t .nodes)) (nodeAt t i .parent) (split s i t) f (split-q i t h)
@@ -131,7 +143,8 @@ module _ (s : Settings) (Q : Summary → Type 0) (none-q : Q blank) (push-q : (x
   joined-q x l Nothing t h = begun-q l (push s x blank) t (push-q x blank none-q) h
   joined-q x l (Entry e) t h =
       either (Throughout Q) (absorbs s x e t) (absorbed s x e t) (begun l (push s x blank) t)
-      (entries-q (changeAt (push s x) e (t .entries)) t (all-change Q (push s x) (push-q x) e (t .entries) (h .entries)) h) (begun-q l (push s x blank) t (push-q x blank none-q) h)
+      (entries-q (changeAt (push s x) e (t .entries)) t (all-change Q (push s x) (push-q x) e (t .entries) (h .entries)) h)
+      (begun-q l (push s x blank) t (push-q x blank none-q) h)
 
   grown-q : (x : List Float) (t : Tree) → Throughout Q t → Throughout Q (grown s x t)
   unfolding grown grownAt placed settled
@@ -148,13 +161,15 @@ module _ (s : Settings) (Q : Summary → Type 0) (none-q : Q blank) (push-q : (x
       let l = leafFor t (λ d. distBetween s d c) in
       let F : Summary → Summary = λ d. merge s d c in
       let v = begun l c (alongPath F l t) in
-      replacedAll-q es (splitUp s (length (v .nodes)) l v) (e .1) (up-q (length (v .nodes)) l v (begun-q l c (alongPath F l t) (e .0) (path-q F (λ d q. merge-q d c q (e .0)) l t h)))
+      replacedAll-q es (splitUp s (length (v .nodes)) l v) (e .1)
+      (up-q (length (v .nodes)) l v (begun-q l c (alongPath F l t) (e .0) (path-q F (λ d q. merge-q d c q (e .0)) l t h)))
 
   reinserted-q : (t : Tree) → Throughout Q t → Throughout Q (reinserted s t)
   unfolding reinserted cleared blankNode
   reinserted-q t h =
       let ks = collected t (length (t .nodes)) (t .root ∷ []) in
-      replacedAll-q (reverse (map (entryAt t) ks)) (cleared t) (all-back Q (map (entryAt t) ks) [] (all-map Q (entryAt t) (λ k. entry-q t k h) ks) tt) (record { nodes = (none-q, tt); entries = tt })
+      replacedAll-q (reverse (map (entryAt t) ks)) (cleared t) (all-back Q (map (entryAt t) ks) [] (all-map Q (entryAt t) (λ k. entry-q t k h) ks) tt)
+      (record { nodes = (none-q, tt); entries = tt })
 
   -- ---- the refold
 
@@ -166,14 +181,17 @@ module _ (s : Settings) (Q : Summary → Type 0) (none-q : Q blank) (push-q : (x
   balanced-q (suc k) (e ∷ d ∷ es) h =
       let l = e ∷ d ∷ es in
       let m = length l / 2 in
-      merge-q (foldBalanced s k (take m l)) (foldBalanced s k (drop m l)) (balanced-q k (take m l) (all-take Q m l h)) (balanced-q k (drop m l) (all-drop Q m l h))
+      merge-q (foldBalanced s k (take m l)) (foldBalanced s k (drop m l)) (balanced-q k (take m l) (all-take Q m l h))
+      (balanced-q k (drop m l) (all-drop Q m l h))
 
   refoldAll-q : (ns : List ℕ) (t : Tree) → Throughout Q t → Throughout Q (refoldAll s ns t)
   unfolding refoldAll refoldOne summed
   refoldAll-q [] t h = h
   refoldAll-q (i ∷ ns) t h =
       refoldAll-q ns (refoldOne s i t)
-      (nodes-q _ t (all-change (OfNode Q) (λ n. summed (λ _. foldBalanced s (length (n .list)) (map (child t (n .leaf)) (n .list))) n) (λ n r. balanced-q (length (n .list)) (map (child t (n .leaf)) (n .list)) (all-map Q (child t (n .leaf)) (λ k. child-q t (n .leaf) k h) (n .list))) i (t .nodes) (h .nodes)) h)
+      (nodes-q _ t (all-change (OfNode Q) (λ n. summed (λ _. foldBalanced s (length (n .list)) (map (child t (n .leaf)) (n .list))) n)
+      (λ n r. balanced-q (length (n .list)) (map (child t (n .leaf)) (n .list)) (all-map Q (child t (n .leaf)) (λ k. child-q t (n .leaf) k h) (n .list))) i
+      (t .nodes) (h .nodes)) h)
 
   refolded-q : (t : Tree) → Throughout Q t → Throughout Q (refolded s t)
   unfolding refolded
@@ -200,7 +218,9 @@ module _ (s : Settings) (Q : Summary → Type 0) (none-q : Q blank) (push-q : (x
 
   dropped-q : (bs : List Bool) (t : Tree) → Throughout Q t → Throughout Q (dropped bs t)
   unfolding dropped
-  dropped-q bs t h = entries-q (keep bs (t .entries)) (withNodes (map (pruned bs) (t .nodes)) t) (all-keep Q bs (t .entries) (h .entries)) (nodes-q (map (pruned bs) (t .nodes)) t (pruned-q (t .nodes) (h .nodes)) h)
+  dropped-q bs t h =
+      entries-q (keep bs (t .entries)) (withNodes (map (pruned bs) (t .nodes)) t) (all-keep Q bs (t .entries) (h .entries))
+      (nodes-q (map (pruned bs) (t .nodes)) t (pruned-q (t .nodes) (h .nodes)) h)
     where
       pruned-q : (ns : List Node) → All (OfNode Q) ns → All (OfNode Q) (map (pruned bs) ns)
       pruned-q [] h = tt
@@ -217,7 +237,8 @@ module _ (s : Settings) (Q : Summary → Type 0) (none-q : Q blank) (push-q : (x
   by-q across ps t h =
       let m = mergeAll s _ (sorted ps) (record { entries = t .entries; alive = map (λ _. true) (t .entries); count = 0; widest = f0 }) in
       either (Throughout Q) (eqb (m .count) 0) t (rebalanced s across (dropped (m .alive) (withMerges t m))) h
-      (rebalanced-q across (dropped (m .alive) (withMerges t m)) (dropped-q (m .alive) (withMerges t m) (record { nodes = h .nodes; entries = merges-q _ (sorted ps) _ (h .entries) })))
+      (rebalanced-q across (dropped (m .alive) (withMerges t m))
+      (dropped-q (m .alive) (withMerges t m) (record { nodes = h .nodes; entries = merges-q _ (sorted ps) _ (h .entries) })))
 
   with-q : (ps : List Pair) (t : Tree) → Throughout Q t → Throughout Q (mergedWith s ps t)
   unfolding mergedWith
@@ -267,7 +288,8 @@ module _ (s : Settings) (Q : Summary → Type 0) (none-q : Q blank) (push-q : (x
       du = dropped-q alive (withEntries es t) w
 
       go : (p q : Bool) → Throughout Q (refitRounds s xs k (suc r) (reinserted s u))
-          → Throughout Q (elim p as (λ _. Tree) [ true ↦ withEntries es t | false ↦ elim q as (λ _. Tree) [ true ↦ u | false ↦ refitRounds s xs k (suc r) (reinserted s u) ] ])
+          → Throughout Q
+          (elim p as (λ _. Tree) [ true ↦ withEntries es t | false ↦ elim q as (λ _. Tree) [ true ↦ u | false ↦ refitRounds s xs k (suc r) (reinserted s u) ] ])
       go true q ih = w
       go false true ih = du
       go false false ih = ih
@@ -290,7 +312,11 @@ module _ (s : Settings) where
   fresh-shaped h = record { nodes = (blank-shaped (s .feature) (s .dim), tt); entries = tt }
 
   pub batch-shaped : (xs : List (List Float)) (t : Tree) → ShapedTree s t → ShapedTree s (insertedAll s xs t)
-  batch-shaped xs t h = insertedAll-q s (Shaped (s .feature) (s .dim)) (blank-shaped (s .feature) (s .dim)) (λ x c. pushed-shaped (s .feature) (s .dim) c x) (λ a b. merged-shaped (s .feature) (s .dim) a b) xs t h
+  batch-shaped xs t h =
+      insertedAll-q s (Shaped (s .feature) (s .dim)) (blank-shaped (s .feature) (s .dim)) (λ x c. pushed-shaped (s .feature) (s .dim) c x)
+      (λ a b. merged-shaped (s .feature) (s .dim) a b) xs t h
 
   pub refit-shaped : (xs : List (List Float)) (t : Tree) → ShapedTree s t → ShapedTree s (refitted s xs t)
-  refit-shaped xs t h = refitted-q s (Shaped (s .feature) (s .dim)) (blank-shaped (s .feature) (s .dim)) (λ x c. pushed-shaped (s .feature) (s .dim) c x) (λ a b. merged-shaped (s .feature) (s .dim) a b) xs t h
+  refit-shaped xs t h =
+      refitted-q s (Shaped (s .feature) (s .dim)) (blank-shaped (s .feature) (s .dim)) (λ x c. pushed-shaped (s .feature) (s .dim) c x)
+      (λ a b. merged-shaped (s .feature) (s .dim) a b) xs t h

@@ -17,7 +17,7 @@ use Rattle.rules.specs.Tree.{Tree}
 use Rattle.laws.specs.Check.Taken.{lowest-none, Binary64, checked-whole}
 use Rattle.laws.specs.Counting.Count.{same?}
 use Rattle.laws.specs.Inserting.First.{Holding}
-use Rattle.laws.specs.Check.Passing.{passes}
+use Rattle.laws.specs.Check.Passing.{whole-passes}
 use Rattle.laws.specs.Check.Empty.{bare-passes, checked-bare}
 
 -- the invariant of a tree between calls: it holds so many rows, in at most max_leaves entries, and its merged total is below that
@@ -49,11 +49,12 @@ resting-passes s t rows r = go (r .holds)
         let m : q .3 ≡ t .merged = ap (λ u. u .merged) (sym (q .5)) in
         let u = r .unsettled in
         subst (λ u. checked s u ≡ Passes) (sym (q .5)) (bare-passes s (q .0) (q .1) (q .2) (q .3) (q .4) (omega arith) (omega arith))
-    go (inr w) = passes (w .1) (w .2) (r .few) (r .unsettled)
+    go (inr w) = whole-passes (w .1) (w .2) (r .few) (r .unsettled)
 
 -- each entry is in one leaf list, once
 pub passing-linked : (s : Settings) (t : Tree) → checked s t ≡ Passes → T (onceEach (length (t .entries)) (leafLists (t .nodes)))
 unfolding checked linked
 passing-linked s t e =
     let b = lowest-none 1 (sized s t ∷ rooted t ∷ every (listFits s t) (t .nodes) ∷ linked t ∷ filled t ∷ level t ∷ weighed t ∷ unsettled s t ∷ []) e in
-    and-r (onceEach (length (t .nodes)) (joined (levels t)) && every (ownList t) (upFrom (length (t .nodes)) 0)) (onceEach (length (t .entries)) (leafLists (t .nodes))) (b .1 .1 .1 .0)
+    and-r (onceEach (length (t .nodes)) (joined (levels t)) && every (ownList t) (upFrom (length (t .nodes)) 0))
+    (onceEach (length (t .entries)) (leafLists (t .nodes))) (b .1 .1 .1 .0)

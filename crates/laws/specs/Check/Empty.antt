@@ -18,7 +18,8 @@ use Rattle.head.specs.Sizes.{nodeCap}
 use Rattle.rules.specs.declared.Verdict.the-variants.{Passes}
 use Rattle.rules.specs.Lists.{upFrom, every, occurs, joined}
 use Rattle.rules.specs.Tree.{Node, Tree, nodeAt, cap}
-use Rattle.rules.specs.Check.{onceEach, orphan, sized, rooted, listFits, nextLevel, levelsFrom, levels, ownList, leafLists, linked, filled, loneRoot, level, sameKind, growing, totalOf, weighs, weighed, lowest, checked, unsettled, known}
+use Rattle.rules.specs.Check.{onceEach, orphan, sized, rooted, listFits, nextLevel, levelsFrom, levels, ownList, leafLists, linked, filled, loneRoot, level}
+use Rattle.rules.specs.Check.{sameKind, growing, totalOf, weighs, weighed, lowest, checked, unsettled, known}
 use Rattle.rules.specs.Reinsert.{collected}
 use Rattle.laws.specs.Invariant.Height.{leaves-few, levels-some}
 use Rattle.laws.specs.Inserting.First.{emptyTree, Zero, Bare}
@@ -39,7 +40,8 @@ T-true : (b : Bool) → T b → b ≡ true
 T-true true h = refl
 T-true false h = absurd h
 
-module _ (s : Settings) {t : Tree} (lent : Binary64 t) (h1 : T (sized s t)) (h2 : T (rooted t)) (h3 : T (every (listFits s t) (t .nodes))) (h4 : T (linked t)) (h5 : T (filled t)) (h6 : T (level t)) (h7 : T (weighed t)) (none-in : length (t .entries) ≡ 0) where
+module _ (s : Settings) (t : Tree) (h2 : T (rooted t)) (h3 : T (every (listFits s t) (t .nodes))) (h4 : T (linked t)) (h5 : T (filled t)) (h6 : T (level t))
+    (none-in : length (t .entries) ≡ 0) where
   is-lone : T (loneRoot t)
   is-lone = go (loneRoot t) refl
     where
@@ -47,25 +49,28 @@ module _ (s : Settings) {t : Tree} (lent : Binary64 t) (h1 : T (sized s t)) (h2 
       go true e = tt
       go false e =
           let n : T (loneRoot t) → ⊥ = λ q. subst T e q in
-          let g = accepted-links s t h2 h3 h4 h5 h6 n in
-          let R = ranks s t h2 h3 h4 h5 h6 n in
+          let g = accepted-links s t h2 h3 h4 h5 n h6 in
+          let R = ranks s t h2 h3 h4 h5 n in
           let a = leaves-few g in
           let b = levels-some g (R (t .root)) 0 (omega arith) in
           absurd (omega arith)
 
-  one-node : length (t .nodes) ≡ 1
+  pub one-node : length (t .nodes) ≡ 1
   unfolding loneRoot
   one-node = eqb→eq (length (t .nodes)) 1 (and-l (eqb (length (t .nodes)) 1) (eqb (length (t .entries)) 0) is-lone)
 
-  root-zero : t .root ≡ 0
+  pub root-zero : t .root ≡ 0
   unfolding rooted
-  root-zero = let a = ltb→lt (t .root) (length (t .nodes)) (and-l (ltb (t .root) (length (t .nodes))) (orphan (nodeAt t (t .root) .parent)) h2) in let b = one-node in omega arith
+  root-zero =
+      let a = ltb→lt (t .root) (length (t .nodes))
+      (and-l (ltb (t .root) (length (t .nodes))) (orphan (nodeAt t (t .root) .parent)) h2) in let b = one-node in omega arith
 
 abbrev pub oneOf : Node → Float → ℕ → ℕ → Tree
 oneOf m h r g = record { nodes = m ∷ []; entries = []; root = 0; threshold = h; rebuilds = r; merged = g }
 
 -- the lone node of such a tree
-lone-node : (s : Settings) (m : Node) (h : Float) (r g : ℕ) → T (rooted (oneOf m h r g)) → T (every (listFits s (oneOf m h r g)) (m ∷ [])) → T (linked (oneOf m h r g)) → T (filled (oneOf m h r g)) → (m .list ≡ []) × (m .leaf ≡ true) × (m .parent ≡ none)
+lone-node : (s : Settings) (m : Node) (h : Float) (r g : ℕ) → T (rooted (oneOf m h r g)) → T (every (listFits s (oneOf m h r g)) (m ∷ [])) → T
+    (linked (oneOf m h r g)) → T (filled (oneOf m h r g)) → (m .list ≡ []) × (m .leaf ≡ true) × (m .parent ≡ none)
 unfolding rooted every listFits linked filled orphan nodeAt loneRoot onceEach levels levelsFrom nextLevel joined known
 lone-node s m h r g h2 h3 h4 h5 = go (m .list) refl (m .leaf) refl
   where
@@ -75,27 +80,39 @@ lone-node s m h r g h2 h3 h4 h5 = go (m .list) refl (m .leaf) refl
 
     go : (ks : List ℕ) → m .list ≡ ks → (b : Bool) → m .leaf ≡ b → (m .list ≡ []) × (m .leaf ≡ true) × (m .parent ≡ none)
     go [] e true f = (e, f, parent′ (m .parent) h2)
-    go [] e false f = absurd (subst (λ b. T (b && true)) f (and-l (m .leaf && true) true (subst (λ ks. T ((ltb 0 (length ks) || (m .leaf && true)) && true)) e h5)))
-    go (c ∷ ks) e true f = absurd (never (subst (λ b. T (ltb c (known (oneOf m h r g) b))) f (and-l (ltb c (known (oneOf m h r g) (m .leaf))) (every (λ c. ltb c (known (oneOf m h r g) (m .leaf))) ks) (subst (λ z. T (every (λ c. ltb c (known (oneOf m h r g) (m .leaf))) z)) e (and-r (leb (length (m .list)) (cap s (m .leaf))) (every (λ c. ltb c (known (oneOf m h r g) (m .leaf))) (m .list)) (and-l (leb (length (m .list)) (cap s (m .leaf)) && every (λ c. ltb c (known (oneOf m h r g) (m .leaf))) (m .list)) true h3))))))
+    go [] e false f =
+        absurd (subst (λ b. T (b && true)) f (and-l (m .leaf && true) true (subst (λ ks. T ((ltb 0 (length ks) || (m .leaf && true)) && true)) e h5)))
+    go (c ∷ ks) e true f = absurd (never
+        (subst (λ b. T (ltb c (known (oneOf m h r g) b))) f
+        (and-l (ltb c (known (oneOf m h r g) (m .leaf))) (every (λ c. ltb c (known (oneOf m h r g) (m .leaf))) ks)
+        (subst (λ z. T (every (λ c. ltb c (known (oneOf m h r g) (m .leaf))) z)) e
+        (and-r (leb (length (m .list)) (cap s (m .leaf))) (every (λ c. ltb c (known (oneOf m h r g) (m .leaf))) (m .list))
+        (and-l (leb (length (m .list)) (cap s (m .leaf)) && every (λ c. ltb c (known (oneOf m h r g) (m .leaf))) (m .list)) true h3))))))
       where
         never : T (ltb c 0) → ⊥
         never q = let z = ltb→lt c 0 q in omega arith
     go (c ∷ ks) e false f =
         let tr : Tree = oneOf m h r g in
-        let a : length (joined (levels tr)) ≡ 1 = eqb→eq (length (joined (levels tr))) 1 (and-l (eqb (length (joined (levels tr))) 1) (every (λ i. eqb (occurs i (joined (levels tr))) 1) (upFrom 1 0))
-        (and-l (onceEach 1 (joined (levels tr))) (every (ownList tr) (upFrom 1 0)) (and-l (onceEach 1 (joined (levels tr)) && every (ownList tr) (upFrom 1 0)) (onceEach 0 (leafLists (m ∷ []))) h4))) in
+        let a : length (joined (levels tr)) ≡ 1 = eqb→eq (length (joined (levels tr))) 1
+        (and-l (eqb (length (joined (levels tr))) 1) (every (λ i. eqb (occurs i (joined (levels tr))) 1) (upFrom 1 0))
+        (and-l (onceEach 1 (joined (levels tr))) (every (ownList tr) (upFrom 1 0))
+        (and-l (onceEach 1 (joined (levels tr)) && every (ownList tr) (upFrom 1 0)) (onceEach 0 (leafLists (m ∷ []))) h4))) in
         let b : length ((0 ∷ []) ++ joined (levelsFrom tr 1 (cond (m .leaf) [] (m .list) ++ []))) ≡ 1 = a in
-        let d : length ((0 ∷ []) ++ joined (levelsFrom tr 1 (cond false [] (c ∷ ks) ++ []))) ≡ 1 = subst (λ z. length ((0 ∷ []) ++ joined (levelsFrom tr 1 (cond false [] z ++ []))) ≡ 1) e (subst (λ z. length ((0 ∷ []) ++ joined (levelsFrom tr 1 (cond z [] (m .list) ++ []))) ≡ 1) f b) in
+        let d : length ((0 ∷ []) ++ joined (levelsFrom tr 1 (cond false [] (c ∷ ks) ++ []))) ≡ 1 = subst
+        (λ z. length ((0 ∷ []) ++ joined (levelsFrom tr 1 (cond false [] z ++ []))) ≡ 1) e
+        (subst (λ z. length ((0 ∷ []) ++ joined (levelsFrom tr 1 (cond z [] (m .list) ++ []))) ≡ 1) f b) in
         absurd (two (length ((ks ++ []) ++ [])) d)
       where
         two : (n : ℕ) → suc (suc n) ≡ 1 → ⊥
         two n e = omega arith
 
 -- a lone root of weight zero passes
-pub bare-passes : (s : Settings) (z : Summary) (h : Float) (r g : ℕ) → Zero (z .weight) → 1 ≤ s .«max_leaves» → g < s .«max_leaves» → checked s (emptyTree z h r g) ≡ Passes
+pub bare-passes : (s : Settings) (z : Summary) (h : Float) (r g : ℕ) → Zero (z .weight) → 1 ≤ s .«max_leaves» → g < s .«max_leaves» → checked s
+    (emptyTree z h r g) ≡ Passes
 unfolding checked sized rooted orphan every listFits linked onceEach levels levelsFrom nextLevel joined occurs upFrom ownList leafLists filled loneRoot level sameKind growing weighed weighs totalOf collected nodeAt lowest nodeCap unsettled
 bare-passes s z h r g hz one hg =
-    go (leb 1 ((s .«max_leaves» + 1) * (s .«max_leaves» + 2) / 2)) (T-true (leb 1 ((s .«max_leaves» + 1) * (s .«max_leaves» + 2) / 2)) (le→leb 1 ((s .«max_leaves» + 1) * (s .«max_leaves» + 2) / 2) (omega arith)))
+    go (leb 1 ((s .«max_leaves» + 1) * (s .«max_leaves» + 2) / 2))
+    (T-true (leb 1 ((s .«max_leaves» + 1) * (s .«max_leaves» + 2) / 2)) (le→leb 1 ((s .«max_leaves» + 1) * (s .«max_leaves» + 2) / 2) (omega arith)))
     (leb 0 (s .«max_leaves»)) (T-true (leb 0 (s .«max_leaves»)) (le→leb 0 (s .«max_leaves») (omega arith)))
     (leb 0 (cap s true)) (T-true (leb 0 (cap s true)) (le→leb 0 (cap s true) (omega arith)))
     (eq (whole 0) (z .weight)) (zero-eq hz)
@@ -118,6 +135,7 @@ zero-of : (z : Summary) (h : Float) (r g : ℕ) → T (fits binary64 (z .weight)
 unfolding weighed every weighs upFrom collected nodeAt totalOf
 zero-of z h r g f w = eq-zero (z .weight) f (and-l (eq (whole 0) (z .weight)) true (and-r true (eq (whole 0) (z .weight) && true) w))
 
+-- an empty tree that passes is one bare leaf
 pub checked-bare : (s : Settings) (t : Tree) → Binary64 t → length (t .entries) ≡ 0 → checked s t ≡ Passes → Bare t × (t .merged < s .«max_leaves»)
 unfolding checked nodeAt unsettled
 checked-bare s t lent none-in h =
@@ -127,8 +145,11 @@ checked-bare s t lent none-in h =
     let e = d .1 in
     let f = e .1 in
     let g = f .1 in
-    let i = g .1 in
-    (shape (t .nodes) refl (one-node s lent (b .0) (c .0) (d .0) (e .0) (f .0) (g .0) (i .0) none-in) (root-zero s lent (b .0) (c .0) (d .0) (e .0) (f .0) (g .0) (i .0) none-in) (c .0) (d .0) (e .0) (f .0) (i .0), ltb→lt (t .merged) (s .«max_leaves») (i .1 .0))
+    let i = g .1 in (
+      shape (t .nodes) refl (one-node s t (c .0) (d .0) (e .0) (f .0) (g .0) none-in) (root-zero s t (c .0) (d .0) (e .0) (f .0) (g .0) none-in) (c .0) (d .0)
+          (e .0) (f .0) (i .0),
+      ltb→lt (t .merged) (s .«max_leaves») (i .1 .0),
+    )
   where
     as-tree : List Node → List Summary → ℕ → Tree
     as-tree ns es r = record { nodes = ns; entries = es; root = r; threshold = t .threshold; rebuilds = t .rebuilds; merged = t .merged }
@@ -136,15 +157,26 @@ checked-bare s t lent none-in h =
     as-node : Summary → List ℕ → Bool → Option ℕ → Node
     as-node z ks l p = record { summary = z; list = ks; leaf = l; parent = p }
 
-    shape : (ns : List Node) → t .nodes ≡ ns → length (t .nodes) ≡ 1 → t .root ≡ 0 → T (rooted t) → T (every (listFits s t) (t .nodes)) → T (linked t) → T (filled t) → T (weighed t) → Bare t
+    shape : (ns : List Node) → t .nodes ≡ ns → length (t .nodes) ≡ 1 → t .root ≡ 0 → T (rooted t) → T (every (listFits s t) (t .nodes)) → T (linked t) → T
+        (filled t) → T (weighed t) → Bare t
     shape [] e n r h2 h3 h4 h5 h7 = let z : length (t .nodes) ≡ 0 = ap (λ l. length l) e in absurd (omega arith)
     shape (m ∷ k ∷ ns) e n r h2 h3 h4 h5 h7 = let z : length (t .nodes) ≡ suc (suc (length ns)) = ap (λ l. length l) e in absurd (omega arith)
     shape (m ∷ []) e n r h2 h3 h4 h5 h7 =
-        let p : t ≡ oneOf m (t .threshold) (t .rebuilds) (t .merged) = ap (λ ns. as-tree ns (t .entries) (t .root)) e ∙ ap (λ es. as-tree (m ∷ []) es (t .root)) (no-entries (t .entries) none-in) ∙ ap (λ r. as-tree (m ∷ []) [] r) r in
-        let q = lone-node s m (t .threshold) (t .rebuilds) (t .merged) (subst (λ u. T (rooted u)) p h2) (subst (λ u. T (every (listFits s u) (u .nodes))) p h3) (subst (λ u. T (linked u)) p h4) (subst (λ u. T (filled u)) p h5) in
-        let o : m ≡ as-node (m .summary) [] true none = ap (λ ks. as-node (m .summary) ks (m .leaf) (m .parent)) (q .0) ∙ ap (λ l. as-node (m .summary) [] l (m .parent)) (q .1) ∙ ap (λ o. as-node (m .summary) [] true o) (q .2) in
-        let w : t ≡ emptyTree (m .summary) (t .threshold) (t .rebuilds) (t .merged) = p ∙ ap (λ m. oneOf m (t .threshold) (t .rebuilds) (t .merged)) o in
-        (m .summary, t .threshold, t .rebuilds, t .merged, zero-of (m .summary) (t .threshold) (t .rebuilds) (t .merged) (fit m p) (subst (λ u. T (weighed u)) w h7), w)
+        let p : t ≡ oneOf m (t .threshold) (t .rebuilds) (t .merged) = ap (λ ns. as-tree ns (t .entries) (t .root)) e ∙ ap
+        (λ es. as-tree (m ∷ []) es (t .root)) (no-entries (t .entries) none-in) ∙ ap (λ r. as-tree (m ∷ []) [] r) r in
+        let q = lone-node s m (t .threshold) (t .rebuilds) (t .merged) (subst (λ u. T (rooted u)) p h2) (subst (λ u. T (every (listFits s u) (u .nodes))) p h3)
+        (subst (λ u. T (linked u)) p h4) (subst (λ u. T (filled u)) p h5) in
+        let o : m ≡ as-node (m .summary) [] true none = ap (λ ks. as-node (m .summary) ks (m .leaf) (m .parent)) (q .0) ∙ ap
+        (λ l. as-node (m .summary) [] l (m .parent)) (q .1) ∙ ap (λ o. as-node (m .summary) [] true o) (q .2) in
+        let w : t ≡ emptyTree (m .summary) (t .threshold) (t .rebuilds) (t .merged) = p ∙ ap (λ m. oneOf m (t .threshold) (t .rebuilds) (t .merged)) o in (
+          m .summary,
+          t .threshold,
+          t .rebuilds,
+          t .merged,
+          zero-of (m .summary) (t .threshold) (t .rebuilds) (t .merged) (fit m p)
+              (subst (λ u. T (weighed u)) w h7),
+          w,
+        )
       where
         fit : (m : Node) → t ≡ oneOf m (t .threshold) (t .rebuilds) (t .merged) → T (fits binary64 (m .summary .weight))
         fit m p = subst (λ u. T (fits binary64 (nodeAt u 0 .summary .weight))) p (lent .nodes-fit 0 (omega arith))

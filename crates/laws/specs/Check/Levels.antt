@@ -13,33 +13,19 @@ use Rattle.rules.specs.Tree.{Tree, nodeAt}
 use Rattle.rules.specs.Lists.{occurs, every, joined}
 use Rattle.rules.specs.Check.{nextLevel, levelsFrom, levels, sameKind, growing, level}
 use Rattle.laws.specs.Counting.Count.{is, is-same, is-other, is-eq, same?, below}
-use Rattle.laws.specs.Counting.Sums.{over, over-same, over-append, occurs-over, length-over, sumTo, sum-same, sum-some, sum-none, occurs-later, occurs-here}
+use Rattle.laws.specs.Counting.Sums.{over, over-same, over-append, occurs-over, length-over, sumTo}
+use Rattle.laws.specs.Counting.Sums.{sum-same, sum-some, sum-none, occurs-later, occurs-here}
 use Rattle.laws.specs.Invariant.Height.{height, rank-zero}
 use Rattle.laws.specs.Invariant.Links.{Links, nil, leaf?, rankCount}
 use Rattle.laws.specs.Inserting.Climb.{only, only-at, only-off}
 use Rattle.laws.specs.Invariant.Beneath.{Frame, frame-of, inners-sum, sum-only, alone}
 use Rattle.laws.specs.Invariant.Collected.{under, under-leaf, under-inner, under-root}
 use Rattle.laws.specs.Counting.Flags.{is-sum}
+use Rattle.laws.specs.Check.Read.{below-of, next-over}
 
 module _ {s : Settings} (t : Tree) {R : ℕ → ℕ} (g : Links s (nodeAt t) (length (t .nodes)) (t .root) (length (t .entries)) R nil nil nil) where
   fr : Frame (nodeAt t) (length (t .nodes)) (t .root) (length (t .entries)) R
   fr = frame-of s (nodeAt t) (length (t .nodes)) (t .root) (length (t .entries)) R nil nil g
-
-  abbrev below-of : (ℕ → ℕ) → ℕ → ℕ
-  below-of v k = cond (nodeAt t k .leaf) 0 (over v (nodeAt t k .list))
-
-  next-over : (v : ℕ → ℕ) (l : List ℕ) → over v (nextLevel t l) ≡ over (below-of v) l
-  unfolding nextLevel over
-  next-over v [] = refl
-  next-over v (k ∷ l) =
-      let a = over-append v (cond (nodeAt t k .leaf) [] (nodeAt t k .list)) (nextLevel t l) in
-      let b = next-over v l in
-      let c = go (nodeAt t k .leaf) in
-      omega arith
-    where
-      go : (b : Bool) → over v (cond b [] (nodeAt t k .list)) ≡ cond b 0 (over v (nodeAt t k .list))
-      go true = unfold over in refl
-      go false = refl
 
   -- l has the nodes of rank h, each once
   abbrev Level : ℕ → List ℕ → Type 0
@@ -60,12 +46,13 @@ module _ {s : Settings} (t : Tree) {R : ℕ → ℕ} (g : Links s (nodeAt t) (le
   -- what the nodes of rank h + 1 list is the nodes of rank h
   next-level : (h : ℕ) (l : List ℕ) → suc h ≤ R (t .root) → Level (suc h) l → Level h (nextLevel t l)
   next-level h l b lv v =
-      let a = next-over v l in
-      let c = lv (below-of v) in
+      let a = next-over t v l in
+      let c = lv (below-of t v) in
       let d = inners-sum fr (λ m. only (v m) h (R m)) in
       let e = only-off (v (t .root)) h (R (t .root)) (high b) in
-      let f : sumTo (λ k. only (below-of v k) (suc h) (R k)) (length (t .nodes)) ≡ sumTo (λ k. below-of (λ m. only (v m) h (R m)) k) (length (t .nodes)) =
-      sum-same (λ k. below-of (λ m. only (v m) h (R m)) k) (λ k. only (below-of v k) (suc h) (R k)) (length (t .nodes)) (λ k q. each k q (same? (R k) (suc h)) (leaf? (nodeAt t k))) in
+      let f : sumTo (λ k. only (below-of t v k) (suc h) (R k)) (length (t .nodes)) ≡ sumTo (λ k. below-of t (λ m. only (v m) h (R m)) k) (length (t .nodes)) =
+      sum-same (λ k. below-of t (λ m. only (v m) h (R m)) k) (λ k. only (below-of t v k) (suc h) (R k)) (length (t .nodes))
+      (λ k q. each k q (same? (R k) (suc h)) (leaf? (nodeAt t k))) in
       omega arith
     where
       high : suc h ≤ R (t .root) → R (t .root) ≢ h
@@ -75,16 +62,18 @@ module _ {s : Settings} (t : Tree) {R : ℕ → ℕ} (g : Links s (nodeAt t) (le
       zeros [] = unfold over in refl
       zeros (x ∷ l) = let p : over (λ _. 0) (x ∷ l) ≡ 0 + over (λ _. 0) l = unfold over in refl in let q = zeros l in omega arith
 
-      each : (k : ℕ) → k < length (t .nodes) → (R k ≡ suc h) ⊎ (R k ≢ suc h) → (nodeAt t k .leaf ≡ true) ⊎ (nodeAt t k .leaf ≡ false) → only (below-of v k) (suc h) (R k) ≡ below-of (λ m. only (v m) h (R m)) k
+      each : (k : ℕ) → k < length (t .nodes) → (R k ≡ suc h) ⊎ (R k ≢ suc h) → (nodeAt t k .leaf ≡ true) ⊎ (nodeAt t k .leaf ≡ false)
+          → only (below-of t v k) (suc h) (R k) ≡ below-of t (λ m. only (v m) h (R m)) k
       each k q (inl e) (inl f) = let z = g .ground k q f in absurd (omega arith)
       each k q (inl e) (inr f) =
-          only-at (below-of v k) (suc h) (R k) e ∙ ap (λ b. cond b 0 (over v (nodeAt t k .list))) f
+          only-at (below-of t v k) (suc h) (R k) e ∙ ap (λ b. cond b 0 (over v (nodeAt t k .list))) f
           ∙ sym (over-same (λ m. only (v m) h (R m)) v (nodeAt t k .list) (λ c o. only-at (v c) h (R c) (let z = g .kid k c q f o .1 in omega arith)))
           ∙ ap (λ b. cond b 0 (over (λ m. only (v m) h (R m)) (nodeAt t k .list))) (sym f)
-      each k q (inr e) (inl f) = only-off (below-of v k) (suc h) (R k) e ∙ ap (λ b. cond b 0 (over (λ m. only (v m) h (R m)) (nodeAt t k .list))) (sym f)
+      each k q (inr e) (inl f) = only-off (below-of t v k) (suc h) (R k) e ∙ ap (λ b. cond b 0 (over (λ m. only (v m) h (R m)) (nodeAt t k .list))) (sym f)
       each k q (inr e) (inr f) =
-          only-off (below-of v k) (suc h) (R k) e
-          ∙ sym (over-same (λ m. only (v m) h (R m)) (λ _. 0) (nodeAt t k .list) (λ c o. only-off (v c) h (R c) (λ z. e (g .kid k c q f o .1 ∙ ap suc z))) ∙ zeros (nodeAt t k .list))
+          only-off (below-of t v k) (suc h) (R k) e
+          ∙ sym (over-same (λ m. only (v m) h (R m)) (λ _. 0) (nodeAt t k .list) (λ c o. only-off (v c) h (R c) (λ z. e (g .kid k c q f o .1 ∙ ap suc z)))
+          ∙ zeros (nodeAt t k .list))
           ∙ ap (λ b. cond b 0 (over (λ m. only (v m) h (R m)) (nodeAt t k .list))) (sym f)
 
   -- members of a level
@@ -113,23 +102,23 @@ module _ {s : Settings} (t : Tree) {R : ℕ → ℕ} (g : Links s (nodeAt t) (le
   last-level : (l : List ℕ) → Level 0 l → nextLevel t l ≡ []
   last-level l lv =
       empty (nextLevel t l)
-      (length-over (nextLevel t l) ∙ next-over (λ _. 1) l ∙ lv (below-of (λ _. 1))
-      ∙ sum-none (λ k. only (below-of (λ _. 1) k) 0 (R k)) (length (t .nodes)) (λ k q. each k q (same? (R k) 0)))
+      (length-over (nextLevel t l) ∙ next-over t (λ _. 1) l ∙ lv (below-of t (λ _. 1))
+      ∙ sum-none (λ k. only (below-of t (λ _. 1) k) 0 (R k)) (length (t .nodes)) (λ k q. each k q (same? (R k) 0)))
     where
       empty : (m : List ℕ) → length m ≡ 0 → m ≡ []
       empty [] e = refl
       empty (x ∷ m) e = absurd (omega arith)
 
-      each : (k : ℕ) → k < length (t .nodes) → (R k ≡ 0) ⊎ (R k ≢ 0) → only (below-of (λ _. 1) k) 0 (R k) ≡ 0
-      each k q (inl e) = only-at (below-of (λ _. 1) k) 0 (R k) e ∙ ap (λ b. cond b 0 (over (λ _. 1) (nodeAt t k .list))) (rank-zero g k q e)
-      each k q (inr e) = only-off (below-of (λ _. 1) k) 0 (R k) e
+      each : (k : ℕ) → k < length (t .nodes) → (R k ≡ 0) ⊎ (R k ≢ 0) → only (below-of t (λ _. 1) k) 0 (R k) ≡ 0
+      each k q (inl e) = only-at (below-of t (λ _. 1) k) 0 (R k) e ∙ ap (λ b. cond b 0 (over (λ _. 1) (nodeAt t k .list))) (rank-zero g k q e)
+      each k q (inr e) = only-off (below-of t (λ _. 1) k) 0 (R k) e
 
   -- ---- the check's lists
 
   abbrev U : (ℕ → ℕ) → ℕ → ℕ
   U f m = under fr f m
 
-  under-all : (v : ℕ → ℕ) (l : List ℕ) → ((c : ℕ) → 0 < occurs c l → c < length (t .nodes)) → over (U v) l ≡ over v l + over (below-of (U v)) l
+  under-all : (v : ℕ → ℕ) (l : List ℕ) → ((c : ℕ) → 0 < occurs c l → c < length (t .nodes)) → over (U v) l ≡ over v l + over (below-of t (U v)) l
   unfolding over
   under-all v [] h = refl
   under-all v (k ∷ l) h =
@@ -137,8 +126,8 @@ module _ {s : Settings} (t : Tree) {R : ℕ → ℕ} (g : Links s (nodeAt t) (le
       let b = go (leaf? (nodeAt t k)) (h k (occurs-here k l)) in
       omega arith
     where
-      go : (nodeAt t k .leaf ≡ true) ⊎ (nodeAt t k .leaf ≡ false) → k < length (t .nodes) → U v k ≡ v k + below-of (U v) k
-      go (inl f) q = let a = under-leaf fr v k q f in let b : below-of (U v) k ≡ 0 = ap (λ b. cond b 0 (over (U v) (nodeAt t k .list))) f in omega arith
+      go : (nodeAt t k .leaf ≡ true) ⊎ (nodeAt t k .leaf ≡ false) → k < length (t .nodes) → U v k ≡ v k + below-of t (U v) k
+      go (inl f) q = let a = under-leaf fr v k q f in let b : below-of t (U v) k ≡ 0 = ap (λ b. cond b 0 (over (U v) (nodeAt t k .list))) f in omega arith
       go (inr f) q = under-inner fr v k q f ∙ ap (λ z. v k + z) (ap (λ b. cond b 0 (over (U v) (nodeAt t k .list))) (sym f))
 
   no-level : (k : ℕ) → levelsFrom t k [] ≡ []
@@ -152,16 +141,18 @@ module _ {s : Settings} (t : Tree) {R : ℕ → ℕ} (g : Links s (nodeAt t) (le
   joined-over v (suc k) h [] q b lv = refl
   joined-over v (suc k) zero (m ∷ l) q b lv =
       let a : levelsFrom t k (nextLevel t (m ∷ l)) ≡ [] = ap (λ z. levelsFrom t k z) (last-level (m ∷ l) lv) ∙ no-level k in
-      let d : over v ((m ∷ l) ++ joined (levelsFrom t k (nextLevel t (m ∷ l)))) ≡ over v (m ∷ l) + over v (joined (levelsFrom t k (nextLevel t (m ∷ l)))) = over-append v (m ∷ l) (joined (levelsFrom t k (nextLevel t (m ∷ l)))) in
+      let d : over v ((m ∷ l) ++ joined (levelsFrom t k (nextLevel t (m ∷ l)))) ≡ over v (m ∷ l) + over v (joined (levelsFrom t k (nextLevel t (m ∷ l)))) =
+      over-append v (m ∷ l) (joined (levelsFrom t k (nextLevel t (m ∷ l)))) in
       let e : over v (joined (levelsFrom t k (nextLevel t (m ∷ l)))) ≡ 0 = ap (λ z. over v (joined z)) a in
       let f = under-all v (m ∷ l) (λ c o. member 0 (m ∷ l) lv c o .0) in
-      let i : over (below-of (U v)) (m ∷ l) ≡ 0 = sym (next-over (U v) (m ∷ l)) ∙ ap (λ z. over (U v) z) (last-level (m ∷ l) lv) in
+      let i : over (below-of t (U v)) (m ∷ l) ≡ 0 = sym (next-over t (U v) (m ∷ l)) ∙ ap (λ z. over (U v) z) (last-level (m ∷ l) lv) in
       omega arith
   joined-over v (suc k) (suc h) (m ∷ l) q b lv =
       let a = joined-over v k h (nextLevel t (m ∷ l)) (omega arith) (omega arith) (next-level h (m ∷ l) b lv) in
-      let d : over v ((m ∷ l) ++ joined (levelsFrom t k (nextLevel t (m ∷ l)))) ≡ over v (m ∷ l) + over v (joined (levelsFrom t k (nextLevel t (m ∷ l)))) = over-append v (m ∷ l) (joined (levelsFrom t k (nextLevel t (m ∷ l)))) in
+      let d : over v ((m ∷ l) ++ joined (levelsFrom t k (nextLevel t (m ∷ l)))) ≡ over v (m ∷ l) + over v (joined (levelsFrom t k (nextLevel t (m ∷ l)))) =
+      over-append v (m ∷ l) (joined (levelsFrom t k (nextLevel t (m ∷ l)))) in
       let f = under-all v (m ∷ l) (λ c o. member (suc h) (m ∷ l) lv c o .0) in
-      let i = next-over (U v) (m ∷ l) in
+      let i = next-over t (U v) (m ∷ l) in
       omega arith
 
   -- condition 4: every node once
@@ -186,8 +177,12 @@ module _ {s : Settings} (t : Tree) {R : ℕ → ℕ} (g : Links s (nodeAt t) (le
 
   kind : (h : ℕ) (l : List ℕ) → Level h l → sameKind t l ≡ true
   unfolding sameKind
-  kind zero l lv = ap (λ b. b || every (λ i. not (nodeAt t i .leaf)) l) (every-of (λ i. nodeAt t i .leaf) l (λ c o. let q = member 0 l lv c o in rank-zero g c (q .0) (q .1)))
-  kind (suc h) l lv = ap (λ b. every (λ i. nodeAt t i .leaf) l || b) (every-of (λ i. not (nodeAt t i .leaf)) l (λ c o. let q = member (suc h) l lv c o in go c (q .0) (q .1) (leaf? (nodeAt t c)))) ∙ or-true (every (λ i. nodeAt t i .leaf) l)
+  kind zero l lv =
+      ap (λ b. b || every (λ i. not (nodeAt t i .leaf)) l) (every-of (λ i. nodeAt t i .leaf) l (λ c o. let q = member 0 l lv c o in rank-zero g c (q .0)
+      (q .1)))
+  kind (suc h) l lv =
+      ap (λ b. every (λ i. nodeAt t i .leaf) l || b) (every-of (λ i. not (nodeAt t i .leaf)) l (λ c o. let q = member (suc h) l lv c o in go c (q .0) (q .1)
+      (leaf? (nodeAt t c)))) ∙ or-true (every (λ i. nodeAt t i .leaf) l)
     where
       or-true : (b : Bool) → (b || true) ≡ true
       or-true true = refl
@@ -201,8 +196,12 @@ module _ {s : Settings} (t : Tree) {R : ℕ → ℕ} (g : Links s (nodeAt t) (le
   unfolding levelsFrom every
   kinds zero h l b lv = refl
   kinds (suc k) h [] b lv = refl
-  kinds (suc k) zero (m ∷ l) b lv = ap (λ z. z && every (sameKind t) (levelsFrom t k (nextLevel t (m ∷ l)))) (kind 0 (m ∷ l) lv) ∙ ap (λ z. every (sameKind t) (levelsFrom t k z)) (last-level (m ∷ l) lv) ∙ ap (λ z. every (sameKind t) z) (no-level k)
-  kinds (suc k) (suc h) (m ∷ l) b lv = ap (λ z. z && every (sameKind t) (levelsFrom t k (nextLevel t (m ∷ l)))) (kind (suc h) (m ∷ l) lv) ∙ kinds k h (nextLevel t (m ∷ l)) (omega arith) (next-level h (m ∷ l) b lv)
+  kinds (suc k) zero (m ∷ l) b lv =
+      ap (λ z. z && every (sameKind t) (levelsFrom t k (nextLevel t (m ∷ l)))) (kind 0 (m ∷ l) lv) ∙ ap (λ z. every (sameKind t) (levelsFrom t k z))
+      (last-level (m ∷ l) lv) ∙ ap (λ z. every (sameKind t) z) (no-level k)
+  kinds (suc k) (suc h) (m ∷ l) b lv =
+      ap (λ z. z && every (sameKind t) (levelsFrom t k (nextLevel t (m ∷ l)))) (kind (suc h) (m ∷ l) lv) ∙ kinds k h (nextLevel t (m ∷ l)) (omega arith)
+      (next-level h (m ∷ l) b lv)
 
   grow : (k h : ℕ) (l : List ℕ) → h < k → h ≤ R (t .root) → Level h l → T (growing (levelsFrom t k l))
   unfolding levelsFrom growing
@@ -210,7 +209,8 @@ module _ {s : Settings} (t : Tree) {R : ℕ → ℕ} (g : Links s (nodeAt t) (le
   grow (suc k) h [] q b lv = tt
   grow (suc k) zero (m ∷ l) q b lv = subst (λ z. T (growing ((m ∷ l) ∷ z))) (sym (ap (λ z. levelsFrom t k z) (last-level (m ∷ l) lv) ∙ no-level k)) tt
   grow (suc zero) (suc h) (m ∷ l) q b lv = absurd (omega arith)
-  grow (suc (suc k)) (suc h) (m ∷ l) q b lv = go (nextLevel t (m ∷ l)) refl (grow (suc k) h (nextLevel t (m ∷ l)) (omega arith) (omega arith) (next-level h (m ∷ l) b lv))
+  grow (suc (suc k)) (suc h) (m ∷ l) q b lv =
+      go (nextLevel t (m ∷ l)) refl (grow (suc k) h (nextLevel t (m ∷ l)) (omega arith) (omega arith) (next-level h (m ∷ l) b lv))
     where
       longer : length (m ∷ l) < length (nextLevel t (m ∷ l))
       longer =
@@ -219,11 +219,13 @@ module _ {s : Settings} (t : Tree) {R : ℕ → ℕ} (g : Links s (nodeAt t) (le
           let d = g .grows h in
           omega arith
 
-      go : (n : List ℕ) → nextLevel t (m ∷ l) ≡ n → T (growing (levelsFrom t (suc k) (nextLevel t (m ∷ l)))) → T (growing ((m ∷ l) ∷ levelsFrom t (suc k) (nextLevel t (m ∷ l))))
+      go : (n : List ℕ) → nextLevel t (m ∷ l) ≡ n → T (growing (levelsFrom t (suc k) (nextLevel t (m ∷ l))))
+          → T (growing ((m ∷ l) ∷ levelsFrom t (suc k) (nextLevel t (m ∷ l))))
       go [] e r = let z : length (nextLevel t (m ∷ l)) ≡ 0 = ap (λ y. length y) e in let w = longer in absurd (omega arith)
       go (x ∷ n) e r =
           subst (λ z. T (growing ((m ∷ l) ∷ levelsFrom t (suc k) z))) (sym e)
-          (and-i (ltb (length (m ∷ l)) (length (x ∷ n))) (growing ((x ∷ n) ∷ levelsFrom t k (nextLevel t (x ∷ n)))) (lt→ltb (length (m ∷ l)) (length (x ∷ n)) (subst (λ z. length (m ∷ l) < length z) e longer)) (subst (λ z. T (growing (levelsFrom t (suc k) z))) e r))
+          (and-i (ltb (length (m ∷ l)) (length (x ∷ n))) (growing ((x ∷ n) ∷ levelsFrom t k (nextLevel t (x ∷ n))))
+          (lt→ltb (length (m ∷ l)) (length (x ∷ n)) (subst (λ z. length (m ∷ l) < length z) e longer)) (subst (λ z. T (growing (levelsFrom t (suc k) z))) e r))
 
   pub level-holds : T (level t)
   unfolding level levels

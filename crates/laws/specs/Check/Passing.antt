@@ -20,7 +20,8 @@ use Rattle.head.specs.Sizes.{nodeCap}
 use Rattle.rules.specs.declared.Verdict.the-variants.{Passes}
 use Rattle.rules.specs.Lists.{upFrom, every, occurs, joined}
 use Rattle.rules.specs.Tree.{Node, Tree, nodeAt, entryAt, blankNode, cap}
-use Rattle.rules.specs.Check.{onceEach, orphan, names, sized, rooted, listFits, levels, ownList, leafLists, linked, loneRoot, filled, level, rowsIn, totalOf, weighs, weighed, lowest, checked, known, unsettled}
+use Rattle.rules.specs.Check.{onceEach, orphan, names, sized, rooted, listFits, levels, ownList, leafLists, linked, loneRoot, filled, level, rowsIn, totalOf}
+use Rattle.rules.specs.Check.{weighs, weighed, lowest, checked, known, unsettled}
 use Rattle.rules.specs.Reinsert.{collected}
 use Rattle.laws.specs.Counting.Count.{is, below, below-in}
 use Rattle.laws.specs.Counting.Sums.{over, over-append, occurs-over, length-over, sumTo, occurs-here, sum-ones, occurs-later}
@@ -36,7 +37,7 @@ use Rattle.laws.specs.Room.Kept.{room-enough}
 
 -- ---- tests over lists
 
-every-list : {A : Type 0} (f : A → Bool) (d : A) (l : List A) → ((i : ℕ) → i < length l → T (f (getD l i d))) → T (every f l)
+pub every-list : {A : Type 0} (f : A → Bool) (d : A) (l : List A) → ((i : ℕ) → i < length l → T (f (getD l i d))) → T (every f l)
 unfolding every
 every-list f d [] h = tt
 every-list f d (x ∷ l) h = and-i (f x) (every f l) (h 0 (omega arith)) (every-list f d l (λ i q. h (suc i) (omega arith)))
@@ -64,11 +65,14 @@ or-right false b t = t
 
 pub once-each : (n : ℕ) (l : List ℕ) → length l ≡ n → ((c : ℕ) → occurs c l ≡ below c n) → T (onceEach n l)
 unfolding onceEach
-once-each n l e h = and-i (eqb (length l) n) (every (λ i. eqb (occurs i l) 1) (upFrom n 0)) (eq→eqb (length l) n e) (every-up (λ i. eqb (occurs i l) 1) n 0 (λ c q. eq→eqb (occurs c l) 1 (h c ∙ below-in c n (omega arith))))
+once-each n l e h =
+    and-i (eqb (length l) n) (every (λ i. eqb (occurs i l) 1) (upFrom n 0)) (eq→eqb (length l) n e)
+    (every-up (λ i. eqb (occurs i l) 1) n 0 (λ c q. eq→eqb (occurs c l) 1 (h c ∙ below-in c n (omega arith))))
 
 -- ---- all leaves' lists in one
 
-pub leaf-lists : (v : ℕ → ℕ) (d : Node) (ns : List Node) → over v (leafLists ns) ≡ sumTo (λ k. cond (getD ns k d .leaf) (over v (getD ns k d .list)) 0) (length ns)
+pub leaf-lists : (v : ℕ → ℕ) (d : Node) (ns : List Node) → over v (leafLists ns) ≡ sumTo (λ k. cond (getD ns k d .leaf) (over v (getD ns k d .list)) 0)
+    (length ns)
 unfolding leafLists over sumTo
 leaf-lists v d [] = refl
 leaf-lists v d (n ∷ ns) =
@@ -106,12 +110,15 @@ module _ {s : Settings} {t : Tree} {R : ℕ → ℕ} {total : ℕ} (g : Settled 
   c1 : T (sized s t)
   unfolding sized
   c1 = and-i (leb 1 (length (t .nodes)) && leb (length (t .nodes)) (nodeCap s)) (leb (length (t .entries)) (s .«max_leaves»))
-      (and-i (leb 1 (length (t .nodes))) (leb (length (t .nodes)) (nodeCap s)) (le→leb 1 (length (t .nodes)) (let q = g .links .root-in in omega arith)) (le→leb (length (t .nodes)) (nodeCap s) (room-enough s t total (R, g, n) (let q = few in omega arith))))
+      (and-i (leb 1 (length (t .nodes))) (leb (length (t .nodes)) (nodeCap s)) (le→leb 1 (length (t .nodes)) (let q =
+      g .links .root-in in omega arith)) (le→leb (length (t .nodes)) (nodeCap s) (room-enough s t total (R, g, n) (let q = few in omega arith))))
       (le→leb (length (t .entries)) (s .«max_leaves») few)
 
   c2 : T (rooted t)
   unfolding rooted orphan
-  c2 = and-i (ltb (t .root) (length (t .nodes))) (orphan (nodeAt t (t .root) .parent)) (lt→ltb (t .root) (length (t .nodes)) (g .links .root-in)) (subst (λ o. T (orphan o)) (sym (g .links .root-top)) tt)
+  c2 =
+      and-i (ltb (t .root) (length (t .nodes))) (orphan (nodeAt t (t .root) .parent)) (lt→ltb (t .root) (length (t .nodes)) (g .links .root-in))
+      (subst (λ o. T (orphan o)) (sym (g .links .root-top)) tt)
 
   fits-at : (i : ℕ) → i < length (t .nodes) → T (listFits s t (nodeAt t i))
   unfolding listFits known
@@ -141,23 +148,31 @@ module _ {s : Settings} {t : Tree} {R : ℕ → ℕ} {total : ℕ} (g : Settled 
 
   c4 : T (linked t)
   unfolding linked
-  c4 = and-i (onceEach (length (t .nodes)) (joined (levels t)) && every (ownList t) (upFrom (length (t .nodes)) 0)) (onceEach (length (t .entries)) (leafLists (t .nodes)))
+  c4 =
+      and-i (onceEach (length (t .nodes)) (joined (levels t)) && every (ownList t) (upFrom (length (t .nodes)) 0))
+      (onceEach (length (t .entries)) (leafLists (t .nodes)))
       (and-i (onceEach (length (t .nodes)) (joined (levels t))) (every (ownList t) (upFrom (length (t .nodes)) 0))
-      (once-each (length (t .nodes)) (joined (levels t)) (length-over (joined (levels t)) ∙ levels-once t (g .links) (λ _. 1) ∙ sum-ones (length (t .nodes))) (λ c. each-once t (g .links) c))
+      (once-each (length (t .nodes)) (joined (levels t)) (length-over (joined (levels t)) ∙ levels-once t (g .links) (λ _. 1) ∙ sum-ones (length (t .nodes)))
+      (λ c. each-once t (g .links) c))
       (every-up (ownList t) (length (t .nodes)) 0 (λ c q. own-at c (omega arith))))
-      (once-each (length (t .entries)) (leafLists (t .nodes)) (length-over (leafLists (t .nodes)) ∙ leaf-all (λ _. 1) ∙ sum-ones (length (t .entries))) (λ c. occurs-over c (leafLists (t .nodes)) ∙ leaf-all (is c) ∙ is-sum c (length (t .entries))))
+      (once-each (length (t .entries)) (leafLists (t .nodes)) (length-over (leafLists (t .nodes)) ∙ leaf-all (λ _. 1) ∙ sum-ones (length (t .entries)))
+      (λ c. occurs-over c (leafLists (t .nodes)) ∙ leaf-all (is c) ∙ is-sum c (length (t .entries))))
 
   c5 : T (filled t)
   unfolding filled
   c5 = every-list (λ n. ltb 0 (length (n .list)) || (n .leaf && loneRoot t)) blankNode (t .nodes)
-      (λ i l. or-left (ltb 0 (length (getD (t .nodes) i blankNode .list))) (getD (t .nodes) i blankNode .leaf && loneRoot t) (lt→ltb 0 (length (getD (t .nodes) i blankNode .list)) (some-kid i l)))
+      (λ i l. or-left (ltb 0 (length (getD (t .nodes) i blankNode .list))) (getD (t .nodes) i blankNode .leaf && loneRoot t)
+      (lt→ltb 0 (length (getD (t .nodes) i blankNode .list)) (some-kid i l)))
     where
       some-kid : (i : ℕ) → i < length (t .nodes) → 0 < length (getD (t .nodes) i blankNode .list)
       some-kid = unfold nodeAt in (g .links .filled)
 
   entry-counts : (c : ℕ) → c < length (t .entries) → T (isCount (getD (t .entries) c blank .weight))
   unfolding entryAt entryWeight
-  entry-counts c l = let q = g .exact .at-entry c l in subst T (sym (counts-test (getD (t .entries) c blank .weight) (rowsIn (getD (t .entries) c blank)) (record { some = g .exact .some-entry c l; few = q .1; is = q .0 }))) tt
+  entry-counts c l =
+      let q = g .exact .at-entry c l in subst T (sym
+      (counts-test (getD (t .entries) c blank .weight) (rowsIn (getD (t .entries) c blank))
+      (record { some = g .exact .some-entry c l; few = q .1; is = q .0 }))) tt
 
   total-is : totalOf (t .entries) ≡ total
   total-is = entries-sum blank (t .entries) ∙ (unfold entryWeight entryAt in n)
@@ -178,13 +193,16 @@ module _ {s : Settings} {t : Tree} {R : ℕ → ℕ} {total : ℕ} (g : Settled 
       small : N ≤ most
       small = subst (λ z. z ≤ most) e (g .exact .at-node i l .1)
 
-  c7 : T (weighed t)
+  pub weighed-holds : T (weighed t)
   unfolding weighed
-  c7 = and-i (every (λ e. isCount (e .weight)) (t .entries) && leb (totalOf (t .entries)) most) (every (weighs t) (upFrom (length (t .nodes)) 0))
-      (and-i (every (λ e. isCount (e .weight)) (t .entries)) (leb (totalOf (t .entries)) most) (every-list (λ e. isCount (e .weight)) blank (t .entries) entry-counts) (le→leb (totalOf (t .entries)) most (subst (λ z. z ≤ most) (sym total-is) (g .exact .small))))
+  weighed-holds = and-i (every (λ e. isCount (e .weight)) (t .entries) && leb (totalOf (t .entries)) most) (every (weighs t) (upFrom (length (t .nodes)) 0))
+      (and-i (every (λ e. isCount (e .weight)) (t .entries)) (leb (totalOf (t .entries)) most)
+      (every-list (λ e. isCount (e .weight)) blank (t .entries) entry-counts) (le→leb (totalOf (t .entries)) most
+      (subst (λ z. z ≤ most) (sym total-is) (g .exact .small))))
       (every-up (weighs t) (length (t .nodes)) 0 (λ c q. node-weighs c (omega arith)))
 
-  pub passes : t .merged < s .«max_leaves» → checked s t ≡ Passes
+  -- all eight conditions
+  pub whole-passes : t .merged < s .«max_leaves» → checked s t ≡ Passes
   unfolding checked unsettled
-  passes m = lowest-all 1 (sized s t ∷ rooted t ∷ every (listFits s t) (t .nodes) ∷ linked t ∷ filled t ∷ level t ∷ weighed t ∷ unsettled s t ∷ [])
-      (c1, (c2, (c3, (c4, (c5, (level-holds t (g .links), (c7, (lt→ltb (t .merged) (s .«max_leaves») m, tt))))))))
+  whole-passes m = lowest-all 1 (sized s t ∷ rooted t ∷ every (listFits s t) (t .nodes) ∷ linked t ∷ filled t ∷ level t ∷ weighed t ∷ unsettled s t ∷ [])
+      (c1, (c2, (c3, (c4, (c5, (level-holds t (g .links), (weighed-holds, (lt→ltb (t .merged) (s .«max_leaves») m, tt))))))))

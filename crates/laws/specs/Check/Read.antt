@@ -53,23 +53,25 @@ rank-top l ls c = go (ltb 0 (occurs c l)) (rest ls)
     go true h = omega arith
     go false h = h
 
+-- what node k lists, weighed by v
+abbrev pub below-of : Tree → (ℕ → ℕ) → ℕ → ℕ
+below-of t v k = cond (nodeAt t k .leaf) 0 (over v (nodeAt t k .list))
+
+-- the next level is what a level's nodes list
+pub next-over : (t : Tree) (v : ℕ → ℕ) (l : List ℕ) → over v (nextLevel t l) ≡ over (below-of t v) l
+unfolding nextLevel over
+next-over t v [] = refl
+next-over t v (k ∷ l) =
+    let a = over-append v (cond (nodeAt t k .leaf) [] (nodeAt t k .list)) (nextLevel t l) in
+    let b = next-over t v l in
+    let c = go (nodeAt t k .leaf) in
+    omega arith
+  where
+    go : (b : Bool) → over v (cond b [] (nodeAt t k .list)) ≡ cond b 0 (over v (nodeAt t k .list))
+    go true = unfold over in refl
+    go false = refl
+
 module _ (s : Settings) (t : Tree) where
-  abbrev below-of : (ℕ → ℕ) → ℕ → ℕ
-  below-of v k = cond (nodeAt t k .leaf) 0 (over v (nodeAt t k .list))
-
-  next-over : (v : ℕ → ℕ) (l : List ℕ) → over v (nextLevel t l) ≡ over (below-of v) l
-  unfolding nextLevel over
-  next-over v [] = refl
-  next-over v (k ∷ l) =
-      let a = over-append v (cond (nodeAt t k .leaf) [] (nodeAt t k .list)) (nextLevel t l) in
-      let b = next-over v l in
-      let c = go (nodeAt t k .leaf) in
-      omega arith
-    where
-      go : (b : Bool) → over v (cond b [] (nodeAt t k .list)) ≡ cond b 0 (over v (nodeAt t k .list))
-      go true = unfold over in refl
-      go false = refl
-
   -- each level lists the next, and the last lists none
   abbrev pub Chain : List (List ℕ) → Type 0
   Chain [] = Unit
@@ -87,24 +89,27 @@ module _ (s : Settings) (t : Tree) where
   uncut zero l h = absurd (omega arith)
   uncut (suc k) [] h = tt
   uncut (suc zero) (m ∷ l) h = let q = length-append (m ∷ l) (joined (levelsFrom t 0 (nextLevel t (m ∷ l)))) in absurd (omega arith)
-  uncut (suc (suc k)) (m ∷ l) h = go (nextLevel t (m ∷ l)) refl (uncut (suc k) (nextLevel t (m ∷ l)) (let q = length-append (m ∷ l) (joined (levelsFrom t (suc k) (nextLevel t (m ∷ l)))) in omega arith))
+  uncut (suc (suc k)) (m ∷ l) h =
+      go (nextLevel t (m ∷ l)) refl
+      (uncut (suc k) (nextLevel t (m ∷ l)) (let q = length-append (m ∷ l) (joined (levelsFrom t (suc k) (nextLevel t (m ∷ l)))) in omega arith))
     where
-      go : (n : List ℕ) → nextLevel t (m ∷ l) ≡ n → Chain (levelsFrom t (suc k) (nextLevel t (m ∷ l))) → Chain ((m ∷ l) ∷ levelsFrom t (suc k) (nextLevel t (m ∷ l)))
+      go : (n : List ℕ) → nextLevel t (m ∷ l) ≡ n → Chain (levelsFrom t (suc k) (nextLevel t (m ∷ l)))
+          → Chain ((m ∷ l) ∷ levelsFrom t (suc k) (nextLevel t (m ∷ l)))
       go [] e c = subst (λ z. Chain ((m ∷ l) ∷ z)) (sym (ap (λ z. levelsFrom t (suc k) z) e)) (omega arith, e)
       go (x ∷ n) e c = subst (λ z. Chain ((m ∷ l) ∷ levelsFrom t (suc k) z)) (sym e) (omega arith, e, subst (λ z. Chain (levelsFrom t (suc k) z)) e c)
 
   -- all but the first level is what the levels list
-  pub listed-all : (v : ℕ → ℕ) (l : List ℕ) (ls : List (List ℕ)) → Chain (l ∷ ls) → over v (joined (l ∷ ls)) ≡ over v l + over (below-of v) (joined (l ∷ ls))
+  pub listed-all : (v : ℕ → ℕ) (l : List ℕ) (ls : List (List ℕ)) → Chain (l ∷ ls) → over v (joined (l ∷ ls)) ≡ over v l + over (below-of t v) (joined (l ∷ ls))
   unfolding joined over
   listed-all v l [] c =
       let a = over-append v l [] in
-      let b = over-append (below-of v) l [] in
-      let d : over (below-of v) l ≡ 0 = sym (next-over v l) ∙ ap (λ z. over v z) (c .1) in
+      let b = over-append (below-of t v) l [] in
+      let d : over (below-of t v) l ≡ 0 = sym (next-over t v l) ∙ ap (λ z. over v z) (c .1) in
       omega arith
   listed-all v l (m ∷ ls) c =
       let a = over-append v l (joined (m ∷ ls)) in
-      let b = over-append (below-of v) l (joined (m ∷ ls)) in
-      let d : over (below-of v) l ≡ over v m = sym (next-over v l) ∙ ap (λ z. over v z) (c .1) in
+      let b = over-append (below-of t v) l (joined (m ∷ ls)) in
+      let d : over (below-of t v) l ≡ over v m = sym (next-over t v l) ∙ ap (λ z. over v z) (c .1) in
       let i = listed-all v m ls (c .2) in
       omega arith
 
@@ -112,14 +117,15 @@ module _ (s : Settings) (t : Tree) where
   kid-next : (i c : ℕ) (l : List ℕ) → 0 < occurs i l → nodeAt t i .leaf ≡ false → 0 < occurs c (nodeAt t i .list) → 0 < occurs c (nextLevel t l)
   kid-next i c l o f q =
       let a = occurs-over c (nextLevel t l) in
-      let b = next-over (is c) l in
-      let d = over-in (below-of (is c)) i l o in
-      let e : below-of (is c) i ≡ over (is c) (nodeAt t i .list) = ap (λ z. cond z 0 (over (is c) (nodeAt t i .list))) f in
+      let b = next-over t (is c) l in
+      let d = over-in (below-of t (is c)) i l o in
+      let e : below-of t (is c) i ≡ over (is c) (nodeAt t i .list) = ap (λ z. cond z 0 (over (is c) (nodeAt t i .list))) f in
       let h = occurs-over c (nodeAt t i .list) in
       omega arith
 
   -- a kid of a member of the levels is in the levels below the first
-  kid-rest : (i c : ℕ) (l : List ℕ) (ls : List (List ℕ)) → Chain (l ∷ ls) → 0 < occurs i (joined (l ∷ ls)) → nodeAt t i .leaf ≡ false → 0 < occurs c (nodeAt t i .list) → 0 < occurs c (joined ls)
+  kid-rest : (i c : ℕ) (l : List ℕ) (ls : List (List ℕ)) → Chain (l ∷ ls) → 0 < occurs i (joined (l ∷ ls)) → nodeAt t i .leaf ≡ false
+      → 0 < occurs c (nodeAt t i .list) → 0 < occurs c (joined ls)
   unfolding joined occurs
   kid-rest i c l [] ch o f q =
       let a = occurs-append i l [] in
@@ -135,15 +141,21 @@ module _ (s : Settings) (t : Tree) where
       tail = occurs-append c m (joined ls)
 
       go : (0 < occurs i l) ⊎ (occurs i l ≤ 0) → (0 < occurs i (joined (m ∷ ls)) → 0 < occurs c (joined ls)) → 0 < occurs c (m ++ joined ls)
-      go (inl p) ih = let b = kid-next i c l p f q in let z : occurs c (nextLevel t l) ≡ occurs c m = ap (λ y. occurs c y) (ch .1) in let w = tail in omega arith
+      go (inl p) ih =
+          let b = kid-next i c l p f q in
+          let z : occurs c (nextLevel t l) ≡ occurs c m = ap (λ y. occurs c y) (ch .1) in
+          let w = tail in
+          omega arith
       go (inr p) ih = let a = parts in let b = ih (omega arith) in let w = tail in omega arith
 
   -- one rank lower
-  pub kid-rank : (i c : ℕ) (ls : List (List ℕ)) → Chain ls → ((d : ℕ) → occurs d (joined ls) ≤ 1) → 0 < occurs i (joined ls) → nodeAt t i .leaf ≡ false → 0 < occurs c (nodeAt t i .list) → rankIn ls i ≡ suc (rankIn ls c)
+  pub kid-rank : (i c : ℕ) (ls : List (List ℕ)) → Chain ls → ((d : ℕ) → occurs d (joined ls) ≤ 1) → 0 < occurs i (joined ls) → nodeAt t i .leaf ≡ false
+      → 0 < occurs c (nodeAt t i .list) → rankIn ls i ≡ suc (rankIn ls c)
   unfolding joined occurs
   kid-rank i c [] ch u o f q = absurd (not-suc-le-zero o)
   kid-rank i c (l ∷ []) ch u o f q = let a = kid-rest i c l [] ch o f q in absurd (not-suc-le-zero a)
-  kid-rank i c (l ∷ (m ∷ ls)) ch u o f q = go (lt? 0 (occurs i l)) (λ p. kid-rank i c (m ∷ ls) (ch .2) (λ d. let a = occurs-append d l (joined (m ∷ ls)) in let b = u d in omega arith) p f q)
+  kid-rank i c (l ∷ (m ∷ ls)) ch u o f q =
+      go (lt? 0 (occurs i l)) (λ p. kid-rank i c (m ∷ ls) (ch .2) (λ d. let a = occurs-append d l (joined (m ∷ ls)) in let b = u d in omega arith) p f q)
     where
       parts : (d : ℕ) → occurs d (l ++ joined (m ∷ ls)) ≡ occurs d l + occurs d (joined (m ∷ ls))
       parts d = occurs-append d l (joined (m ∷ ls))
@@ -154,7 +166,8 @@ module _ (s : Settings) (t : Tree) where
       not-here : occurs c l ≡ 0
       not-here = let a = parts c in let b = u c in let d = in-rest in omega arith
 
-      go : (0 < occurs i l) ⊎ (occurs i l ≤ 0) → (0 < occurs i (joined (m ∷ ls)) → rankIn (m ∷ ls) i ≡ suc (rankIn (m ∷ ls) c)) → rankIn (l ∷ m ∷ ls) i ≡ suc (rankIn (l ∷ m ∷ ls) c)
+      go : (0 < occurs i l) ⊎ (occurs i l ≤ 0) → (0 < occurs i (joined (m ∷ ls)) → rankIn (m ∷ ls) i ≡ suc (rankIn (m ∷ ls) c))
+          → rankIn (l ∷ m ∷ ls) i ≡ suc (rankIn (l ∷ m ∷ ls) c)
       go (inl p) ih =
           let b = kid-next i c l p f q in
           let z : occurs c (nextLevel t l) ≡ occurs c m = ap (λ y. occurs c y) (ch .1) in
@@ -186,10 +199,10 @@ module _ (s : Settings) (t : Tree) where
 
       go : T (every (λ i. nodeAt t i .leaf) l) ⊎ T (every (λ i. not (nodeAt t i .leaf)) l) → length (nextLevel t l) ≡ 0
       go (inl a) =
-          length-over (nextLevel t l) ∙ next-over (λ _. 1) l
-          ∙ over-same (below-of (λ _. 1)) (λ _. 0) l (λ c q. each c (all-of (λ i. nodeAt t i .leaf) l a c q)) ∙ zeros l
+          length-over (nextLevel t l) ∙ next-over t (λ _. 1) l
+          ∙ over-same (below-of t (λ _. 1)) (λ _. 0) l (λ c q. each c (all-of (λ i. nodeAt t i .leaf) l a c q)) ∙ zeros l
         where
-          each : (c : ℕ) → T (nodeAt t c .leaf) → below-of (λ _. 1) c ≡ 0
+          each : (c : ℕ) → T (nodeAt t c .leaf) → below-of t (λ _. 1) c ≡ 0
           each c h = by (nodeAt t c .leaf) h
             where
               by : (b : Bool) → T b → cond b 0 (over (λ _. 1) (nodeAt t c .list)) ≡ 0
@@ -201,7 +214,8 @@ module _ (s : Settings) (t : Tree) where
   unfolding joined occurs every
   leaf-rank i [] ch k o f = absurd (not-suc-le-zero o)
   leaf-rank i (l ∷ []) ch k o f = let a = occurs-append i l [] in rank-here l [] i (omega arith)
-  leaf-rank i (l ∷ (m ∷ ls)) ch k o f = go (lt? 0 (occurs i l)) (λ p. leaf-rank i (m ∷ ls) (ch .2) (and-r (sameKind t l) (sameKind t m && every (sameKind t) ls) k) p f)
+  leaf-rank i (l ∷ (m ∷ ls)) ch k o f =
+      go (lt? 0 (occurs i l)) (λ p. leaf-rank i (m ∷ ls) (ch .2) (and-r (sameKind t l) (sameKind t m && every (sameKind t) ls) k) p f)
     where
       parts : occurs i (l ++ joined (m ∷ ls)) ≡ occurs i l + occurs i (joined (m ∷ ls))
       parts = occurs-append i l (joined (m ∷ ls))
@@ -229,8 +243,11 @@ module _ (s : Settings) (t : Tree) where
   rank-count r [] u = refl
   rank-count r (l ∷ ls) u =
       let a = over-append (λ k. is r (rankIn (l ∷ ls) k)) l (joined ls) in
-      let b : over (λ k. is r (rankIn (l ∷ ls) k)) l ≡ over (λ k. is r (length ls)) l = over-same (λ k. is r (rankIn (l ∷ ls) k)) (λ k. is r (length ls)) l (λ c o. ap (λ z. is r z) (rank-here l ls c o)) in
-      let d : over (λ k. is r (rankIn (l ∷ ls) k)) (joined ls) ≡ over (λ k. is r (rankIn ls k)) (joined ls) = over-same (λ k. is r (rankIn (l ∷ ls) k)) (λ k. is r (rankIn ls k)) (joined ls) (λ c o. ap (λ z. is r z) (rank-later l ls c (let p = occurs-append c l (joined ls) in let q = u c in omega arith))) in
+      let b : over (λ k. is r (rankIn (l ∷ ls) k)) l ≡ over (λ k. is r (length ls)) l =
+      over-same (λ k. is r (rankIn (l ∷ ls) k)) (λ k. is r (length ls)) l (λ c o. ap (λ z. is r z) (rank-here l ls c o)) in
+      let d : over (λ k. is r (rankIn (l ∷ ls) k)) (joined ls) ≡ over (λ k. is r (rankIn ls k)) (joined ls) =
+      over-same (λ k. is r (rankIn (l ∷ ls) k)) (λ k. is r (rankIn ls k)) (joined ls)
+      (λ c o. ap (λ z. is r z) (rank-later l ls c (let p = occurs-append c l (joined ls) in let q = u c in omega arith))) in
       let i = rank-count r ls (λ d. let p = occurs-append d l (joined ls) in let q = u d in omega arith) in
       let e = const (is r (length ls)) l in
       omega arith
@@ -242,7 +259,11 @@ module _ (s : Settings) (t : Tree) where
   len-high : (r : ℕ) (ls : List (List ℕ)) → length ls ≤ r → lenAt ls r ≡ 0
   unfolding lenAt
   len-high r [] h = refl
-  len-high r (l ∷ ls) h = let a = is-other r (length ls) (λ e. clash e h) in let b = len-high r ls (omega arith) in let c : is r (length ls) * length l ≡ 0 = ap (λ z. z * length l) a ∙ omega arith in omega arith
+  len-high r (l ∷ ls) h =
+      let a = is-other r (length ls) (λ e. clash e h) in
+      let b = len-high r ls (omega arith) in
+      let c : is r (length ls) * length l ≡ 0 = ap (λ z. z * length l) a ∙ omega arith in
+      omega arith
     where
       clash : r ≡ length ls → suc (length ls) ≤ r → ⊥
       clash e h = omega arith
@@ -250,11 +271,15 @@ module _ (s : Settings) (t : Tree) where
   pub len-grows : (r : ℕ) (ls : List (List ℕ)) → T (growing ls) → lenAt ls (suc r) ≤ lenAt ls r - 1
   unfolding lenAt growing
   len-grows r [] h = omega arith
-  len-grows r (a ∷ []) h = let x = is-other (suc r) 0 (λ e. clash e) in let y : is (suc r) 0 * length a ≡ 0 = ap (λ z. z * length a) x ∙ omega arith in omega arith
+  len-grows r (a ∷ []) h =
+      let x = is-other (suc r) 0 (λ e. clash e) in
+      let y : is (suc r) 0 * length a ≡ 0 = ap (λ z. z * length a) x ∙ omega arith in
+      omega arith
     where
       clash : suc r ≡ 0 → ⊥
       clash e = omega arith
-  len-grows r (a ∷ (b ∷ ls)) h = go (same? r (length ls)) (same? r (suc (length ls))) (len-grows r (b ∷ ls) (and-r (ltb (length a) (length b)) (growing (b ∷ ls)) h))
+  len-grows r (a ∷ (b ∷ ls)) h =
+      go (same? r (length ls)) (same? r (suc (length ls))) (len-grows r (b ∷ ls) (and-r (ltb (length a) (length b)) (growing (b ∷ ls)) h))
     where
       longer : length a < length b
       longer = ltb→lt (length a) (length b) (and-l (ltb (length a) (length b)) (growing (b ∷ ls)) h)
@@ -262,10 +287,13 @@ module _ (s : Settings) (t : Tree) where
       suc-ne : (m n : ℕ) → m ≢ n → suc m ≢ suc n
       suc-ne m n d e = d (let q : suc m ≡ suc n = e in omega arith)
 
-      go : (r ≡ length ls) ⊎ (r ≢ length ls) → (r ≡ suc (length ls)) ⊎ (r ≢ suc (length ls)) → is (suc r) (length ls) * length b + lenAt ls (suc r) ≤ is r (length ls) * length b + lenAt ls r - 1
-          → is (suc r) (suc (length ls)) * length a + (is (suc r) (length ls) * length b + lenAt ls (suc r)) ≤ is r (suc (length ls)) * length a + (is r (length ls) * length b + lenAt ls r) - 1
+      go : (r ≡ length ls) ⊎ (r ≢ length ls) → (r ≡ suc (length ls)) ⊎ (r ≢ suc (length ls))
+          → is (suc r) (length ls) * length b + lenAt ls (suc r) ≤ is r (length ls) * length b + lenAt ls r - 1
+          → is (suc r) (suc (length ls)) * length a + (is (suc r) (length ls) * length b + lenAt ls (suc r)) ≤ is r (suc (length ls)) * length
+          a + (is r (length ls) * length b + lenAt ls r) - 1
       go (inl e) q ih =
-          let x1 : is (suc r) (suc (length ls)) * length a ≡ length a = ap (λ z. z * length a) (is-same (suc r) (suc (length ls)) (ap suc e)) ∙ one-mul (length a) in
+          let x1 : is (suc r) (suc (length ls)) * length a ≡ length a =
+          ap (λ z. z * length a) (is-same (suc r) (suc (length ls)) (ap suc e)) ∙ one-mul (length a) in
           let x2 : is (suc r) (length ls) * length b ≡ 0 = ap (λ z. z * length b) (is-other (suc r) (length ls) (λ z. off e z)) ∙ omega arith in
           let x3 : is r (length ls) * length b ≡ length b = ap (λ z. z * length b) (is-same r (length ls) e) ∙ one-mul (length b) in
           let x4 = len-high (suc r) ls (omega arith) in
@@ -275,11 +303,13 @@ module _ (s : Settings) (t : Tree) where
           off : r ≡ length ls → suc r ≡ length ls → ⊥
           off e z = omega arith
       go (inr d) q ih =
-          let x1 : is (suc r) (suc (length ls)) * length a ≡ 0 = ap (λ z. z * length a) (is-other (suc r) (suc (length ls)) (suc-ne r (length ls) d)) ∙ omega arith in
+          let x1 : is (suc r) (suc (length ls)) * length a ≡ 0 =
+          ap (λ z. z * length a) (is-other (suc r) (suc (length ls)) (suc-ne r (length ls) d)) ∙ omega arith in
           by q x1
         where
           by : (r ≡ suc (length ls)) ⊎ (r ≢ suc (length ls)) → is (suc r) (suc (length ls)) * length a ≡ 0
-              → is (suc r) (suc (length ls)) * length a + (is (suc r) (length ls) * length b + lenAt ls (suc r)) ≤ is r (suc (length ls)) * length a + (is r (length ls) * length b + lenAt ls r) - 1
+              → is (suc r) (suc (length ls)) * length a + (is (suc r) (length ls) * length b + lenAt ls (suc r)) ≤ is r (suc (length ls)) * length
+              a + (is r (length ls) * length b + lenAt ls r) - 1
           by (inl e) x1 =
               let x2 : is (suc r) (length ls) * length b ≡ 0 = ap (λ z. z * length b) (is-other (suc r) (length ls) (λ z. off e z)) ∙ omega arith in
               let x4 = len-high (suc r) ls (omega arith) in

@@ -41,12 +41,14 @@ over-kept bs v (c ∷ l) = go (flag? bs c) (over-kept bs v l)
     go : (getD bs c false ≡ true) ⊎ (getD bs c false ≡ false) → over v (filterMap (numberIf bs) l) ≡ over (alive bs (λ c. v (renumber bs c))) l
         → over v (filterMap (numberIf bs) (c ∷ l)) ≡ alive bs (λ c. v (renumber bs c)) c + over (alive bs (λ c. v (renumber bs c))) l
     go (inl e) ih =
-        let a : filterMap (numberIf bs) (c ∷ l) ≡ renumber bs c ∷ filterMap (numberIf bs) l = filterMap-cons-some (numberIf bs) c l (unfold numberIf in ap (λ b. cond b (some (renumber bs c)) none) e) in
+        let a : filterMap (numberIf bs) (c ∷ l) ≡ renumber bs c ∷ filterMap (numberIf bs) l =
+        filterMap-cons-some (numberIf bs) c l (unfold numberIf in ap (λ b. cond b (some (renumber bs c)) none) e) in
         let b : over v (filterMap (numberIf bs) (c ∷ l)) ≡ v (renumber bs c) + over v (filterMap (numberIf bs) l) = ap (λ z. over v z) a in
         let d = alive-up bs (λ c. v (renumber bs c)) c e in
         omega arith
     go (inr e) ih =
-        let a : filterMap (numberIf bs) (c ∷ l) ≡ filterMap (numberIf bs) l = filterMap-cons-none (numberIf bs) c l (unfold numberIf in ap (λ b. cond b (some (renumber bs c)) none) e) in
+        let a : filterMap (numberIf bs) (c ∷ l) ≡ filterMap (numberIf bs) l =
+        filterMap-cons-none (numberIf bs) c l (unfold numberIf in ap (λ b. cond b (some (renumber bs c)) none) e) in
         let b : over v (filterMap (numberIf bs) (c ∷ l)) ≡ over v (filterMap (numberIf bs) l) = ap (λ z. over v z) a in
         let d = alive-down bs (λ c. v (renumber bs c)) c e in
         omega arith
@@ -64,7 +66,8 @@ unfolding sumTo renumber countUp
 renumbered bs v zero h = refl
 renumbered bs v (suc m) h = go (flag? bs m) (renumbered bs v m (omega arith)) (count-suc bs m h)
   where
-    go : (getD bs m false ≡ true) ⊎ (getD bs m false ≡ false) → sumTo (alive bs (λ c. v (renumber bs c))) m ≡ sumTo v (countUp (take m bs)) → countUp (take (suc m) bs) ≡ countUp (take m bs) + bit (getD bs m false)
+    go : (getD bs m false ≡ true) ⊎ (getD bs m false ≡ false) → sumTo (alive bs (λ c. v (renumber bs c))) m ≡ sumTo v (countUp (take m bs))
+        → countUp (take (suc m) bs) ≡ countUp (take m bs) + bit (getD bs m false)
         → sumTo (alive bs (λ c. v (renumber bs c))) m + alive bs (λ c. v (renumber bs c)) m ≡ sumTo v (countUp (take (suc m) bs))
     go (inl e) ih k =
         let a = alive-up bs (λ c. v (renumber bs c)) m e in
@@ -98,7 +101,8 @@ old-number bs k h =
     let q = go (r .0) (r .2) (flag? bs (r .0)) in
     (r .0, r .1, q .0, q .1)
   where
-    go : (c : ℕ) → 0 < alive bs (λ c. is k (renumber bs c)) c → (getD bs c false ≡ true) ⊎ (getD bs c false ≡ false) → (getD bs c false ≡ true) × (renumber bs c ≡ k)
+    go : (c : ℕ) → 0 < alive bs (λ c. is k (renumber bs c)) c → (getD bs c false ≡ true) ⊎ (getD bs c false ≡ false)
+        → (getD bs c false ≡ true) × (renumber bs c ≡ k)
     go c o (inl e) = let q = alive-up bs (λ c. is k (renumber bs c)) c e in (e, sym (is-eq k (renumber bs c) (omega arith)))
     go c o (inr e) = let q = alive-down bs (λ c. is k (renumber bs c)) c e in absurd (omega arith)
 
@@ -120,6 +124,13 @@ module _ {A : Type 0} where
   keep-length (b ∷ bs) [] h = absurd (omega arith)
   keep-length (true ∷ bs) (x ∷ l) h = ap suc (keep-length bs l (let q : suc (length bs) ≡ suc (length l) = h in omega arith))
   keep-length (false ∷ bs) (x ∷ l) h = keep-length bs l (let q : suc (length bs) ≡ suc (length l) = h in omega arith)
+
+  pub keep-few : (bs : List Bool) (l : List A) → length (keep bs l) ≤ length l
+  unfolding keep
+  keep-few bs [] = omega arith
+  keep-few [] (x ∷ l) = omega arith
+  keep-few (true ∷ bs) (x ∷ l) = let q = keep-few bs l in omega arith
+  keep-few (false ∷ bs) (x ∷ l) = let q = keep-few bs l in omega arith
 
 -- one flag taken down
 pub count-down : (bs : List Bool) (c : ℕ) → getD bs c false ≡ true → suc (countUp (set bs c false)) ≡ countUp bs

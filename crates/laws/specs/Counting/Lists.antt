@@ -23,7 +23,8 @@ module _ {A : Type 0} where
   change-off f (suc i) (suc k) d (m ∷ ns) h = change-off f i k d ns (λ e. h (ap suc e))
 
   -- what f leaves alone stays at every place
-  pub change-keeps : {B : Type 0} (g : A → B) (f : A → A) (i k : ℕ) (d : A) (ns : List A) → ((m : A) → g (f m) ≡ g m) → g (getD (changeAt f i ns) k d) ≡ g (getD ns k d)
+  pub change-keeps : {B : Type 0} (g : A → B) (f : A → A) (i k : ℕ) (d : A) (ns : List A) → ((m : A) → g (f m) ≡ g m)
+      → g (getD (changeAt f i ns) k d) ≡ g (getD ns k d)
   unfolding changeAt
   change-keeps g f i k d [] h = refl
   change-keeps g f zero zero d (m ∷ ns) h = h m

@@ -77,7 +77,8 @@ over-once v w i (c ∷ l) o h = go (same? c i) (λ x. over-once v w i l x (λ d 
     go (inl e) ih =
         let p : occurs i (c ∷ l) ≡ is i c + occurs i l = occurs-cons i c l in
         let q : is i c ≡ 1 = is-same i c (sym e) in
-        let r : over v l ≡ over w l = over-same v w l (λ d k. h d (let p = occurs-cons d c l in omega arith) (λ z. lt-irrefl 0 (subst (λ x. 0 < x) (let y : occurs d l ≡ occurs i l = ap (λ m. occurs m l) z in omega arith) k))) in
+        let r : over v l ≡ over w l = over-same v w l (λ d k. h d (let p = occurs-cons d c l in omega arith)
+        (λ z. lt-irrefl 0 (subst (λ x. 0 < x) (let y : occurs d l ≡ occurs i l = ap (λ m. occurs m l) z in omega arith) k))) in
         let a : v c ≡ v i = ap v e in
         let b : w c ≡ w i = ap w e in
         omega arith
@@ -174,7 +175,8 @@ is-sym i j = go (same? i j)
     go (inr e) = is-other i j e ∙ sym (is-other j i (λ z. e (sym z)))
 
 pub occurs-append : (i : ℕ) (l m : List ℕ) → occurs i (l ++ m) ≡ occurs i l + occurs i m
-occurs-append i l m = occurs-over i (l ++ m) ∙ over-append (is i) l m ∙ ap (λ z. z + over (is i) m) (sym (occurs-over i l)) ∙ ap (λ z. occurs i l + z) (sym (occurs-over i m))
+occurs-append i l m =
+    occurs-over i (l ++ m) ∙ over-append (is i) l m ∙ ap (λ z. z + over (is i) m) (sym (occurs-over i l)) ∙ ap (λ z. occurs i l + z) (sym (occurs-over i m))
 
 pub occurs-snoc : (i : ℕ) (l : List ℕ) (j : ℕ) → occurs i (snoc l j) ≡ occurs i l + is i j
 unfolding snoc occurs

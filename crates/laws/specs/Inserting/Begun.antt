@@ -27,10 +27,8 @@ use Rattle.laws.specs.Inserting.Listed.{new-links, held-in}
 
 -- ---- a new entry
 
-module _ {s : Settings} {t : Tree} {R : ℕ → ℕ} {d l total : ℕ} (e : Summary) (g : Pushed s t R d l total) (h : l < length (t .nodes)) (f : nodeAt t l .leaf ≡ true) (x : Exactly e d) (some : 1 ≤ d) where
-  abbrev now : Tree
-  now = begun l e t
-
+module _ {s : Settings} {t : Tree} {R : ℕ → ℕ} {d l total : ℕ} (e : Summary) (g : Pushed s t R d l total) (h : l < length (t .nodes))
+    (f : nodeAt t l .leaf ≡ true) (x : Exactly e d) (some : 1 ≤ d) where
   added : Added (nodeAt t) (nodeAt (begun l e t)) l (length (t .entries))
   unfolding begun withNodes withEntries nodeAt adding listing
   added = record {
@@ -75,26 +73,28 @@ module _ {s : Settings} {t : Tree} {R : ℕ → ℕ} {d l total : ℕ} (e : Summ
       differ : c ≡ length (t .entries) → ⊥
       differ z = omega arith
 
-  new-own : (k : ℕ) → k < length (t .nodes) → own (nodeAt (begun l e t) k) (entryWeight (begun l e t)) (nodeWeight (begun l e t)) ≡ own (nodeAt t k) (entryWeight t) (nodeWeight t) + only d l k
+  new-own : (k : ℕ) → k < length (t .nodes) → own (nodeAt (begun l e t) k) (entryWeight (begun l e t)) (nodeWeight (begun l e t))
+      ≡ own (nodeAt t k) (entryWeight t) (nodeWeight t) + only d l k
   unfolding over snoc
   new-own k q = go (same? k l) (leaf? (nodeAt t k))
     where
-      E′ : ℕ → ℕ
-      E′ = entryWeight (begun l e t)
-
-      W′ : ℕ → ℕ
-      W′ = nodeWeight (begun l e t)
-
-      old : (k : ℕ) → k < length (t .nodes) → nodeAt t k .leaf ≡ true → over (entryWeight (begun l e t)) (nodeAt t k .list) ≡ over (entryWeight t) (nodeAt t k .list)
-      old k q u = over-same (entryWeight (begun l e t)) (entryWeight t) (nodeAt t k .list) (λ c o. ew-old c (held-in s (nodeAt t) (length (t .nodes)) (t .root) (length (t .entries)) R nil nil nil (g .links) k c q u o .0))
+      old : (k : ℕ) → k < length (t .nodes) → nodeAt t k .leaf ≡ true
+          → over (entryWeight (begun l e t)) (nodeAt t k .list) ≡ over (entryWeight t) (nodeAt t k .list)
+      old k q u =
+          over-same (entryWeight (begun l e t)) (entryWeight t) (nodeAt t k .list)
+          (λ c o. ew-old c (held-in s (nodeAt t) (length (t .nodes)) (t .root) (length (t .entries)) R nil nil nil (g .links) k c q u o .0))
 
       go : (k ≡ l) ⊎ (k ≢ l) → (nodeAt t k .leaf ≡ true) ⊎ (nodeAt t k .leaf ≡ false)
           → own (nodeAt (begun l e t) k) (entryWeight (begun l e t)) (nodeWeight (begun l e t)) ≡ own (nodeAt t k) (entryWeight t) (nodeWeight t) + only d l k
       go (inl z) u =
           let fk : nodeAt t k .leaf ≡ true = ap (λ y. nodeAt t y .leaf) z ∙ f in
-          let a : own (nodeAt (begun l e t) k) (entryWeight (begun l e t)) (nodeWeight (begun l e t)) ≡ over (entryWeight (begun l e t)) (snoc (nodeAt t k .list) (length (t .entries))) =
-          own-leaf (nodeAt (begun l e t) k) (entryWeight (begun l e t)) (nodeWeight (begun l e t)) (added .leaf-o k ∙ fk) ∙ ap (λ y. over (entryWeight (begun l e t)) y) (ap (λ y. nodeAt (begun l e t) y .list) z ∙ added .kids-p ∙ ap (λ y. snoc (nodeAt t y .list) (length (t .entries))) (sym z)) in
-          let b : over (entryWeight (begun l e t)) (snoc (nodeAt t k .list) (length (t .entries))) ≡ over (entryWeight (begun l e t)) (nodeAt t k .list) + (entryWeight (begun l e t) (length (t .entries)) + 0) =
+          let a : own (nodeAt (begun l e t) k) (entryWeight (begun l e t)) (nodeWeight (begun l e t))
+          ≡ over (entryWeight (begun l e t)) (snoc (nodeAt t k .list) (length (t .entries))) =
+          own-leaf (nodeAt (begun l e t) k) (entryWeight (begun l e t)) (nodeWeight (begun l e t)) (added .leaf-o k ∙ fk)
+          ∙ ap (λ y. over (entryWeight (begun l e t)) y) (ap (λ y. nodeAt (begun l e t) y .list) z ∙ added .kids-p
+          ∙ ap (λ y. snoc (nodeAt t y .list) (length (t .entries))) (sym z)) in
+          let b : over (entryWeight (begun l e t)) (snoc (nodeAt t k .list) (length (t .entries)))
+          ≡ over (entryWeight (begun l e t)) (nodeAt t k .list) + (entryWeight (begun l e t) (length (t .entries)) + 0) =
           over-append (entryWeight (begun l e t)) (nodeAt t k .list) (length (t .entries) ∷ []) in
           let c = old k q fk in
           let m = ew-new in
@@ -103,14 +103,16 @@ module _ {s : Settings} {t : Tree} {R : ℕ → ℕ} {d l total : ℕ} (e : Summ
           omega arith
       go (inr z) (inl fk) =
           let a : own (nodeAt (begun l e t) k) (entryWeight (begun l e t)) (nodeWeight (begun l e t)) ≡ over (entryWeight (begun l e t)) (nodeAt t k .list) =
-          own-leaf (nodeAt (begun l e t) k) (entryWeight (begun l e t)) (nodeWeight (begun l e t)) (added .leaf-o k ∙ fk) ∙ ap (λ y. over (entryWeight (begun l e t)) y) (added .kids-o k z) in
+          own-leaf (nodeAt (begun l e t) k) (entryWeight (begun l e t)) (nodeWeight (begun l e t)) (added .leaf-o k ∙ fk)
+          ∙ ap (λ y. over (entryWeight (begun l e t)) y) (added .kids-o k z) in
           let c = old k q fk in
           let v = own-leaf (nodeAt t k) (entryWeight t) (nodeWeight t) fk in
           let w = only-off d l k z in
           omega arith
       go (inr z) (inr fk) =
           let a : own (nodeAt (begun l e t) k) (entryWeight (begun l e t)) (nodeWeight (begun l e t)) ≡ over (nodeWeight (begun l e t)) (nodeAt t k .list) =
-          own-inner (nodeAt (begun l e t) k) (entryWeight (begun l e t)) (nodeWeight (begun l e t)) (added .leaf-o k ∙ fk) ∙ ap (λ y. over (nodeWeight (begun l e t)) y) (added .kids-o k z) in
+          own-inner (nodeAt (begun l e t) k) (entryWeight (begun l e t)) (nodeWeight (begun l e t)) (added .leaf-o k ∙ fk)
+          ∙ ap (λ y. over (nodeWeight (begun l e t)) y) (added .kids-o k z) in
           let c = over-same (nodeWeight (begun l e t)) (nodeWeight t) (nodeAt t k .list) (λ c o. weight-same c) in
           let v = own-inner (nodeAt t k) (entryWeight t) (nodeWeight t) fk in
           let w = only-off d l k z in
@@ -150,8 +152,10 @@ module _ {s : Settings} {t : Tree} {R : ℕ → ℕ} {d l total : ℕ} (e : Summ
 
 -- ---- a leaf of a settled tree may be looked at
 
-pub looked : (s : Settings) (t : Tree) (R : ℕ → ℕ) (l total : ℕ) → Settled s t R total → l < length (t .nodes) → nodeAt t l .leaf ≡ true → Looking s t R l total
-looked s t R l total g h f = record {
+-- a settled tree may be looked at in any leaf
+pub looking-of : (s : Settings) (t : Tree) (R : ℕ → ℕ) (l total : ℕ) → Settled s t R total → l < length (t .nodes) → nodeAt t l .leaf ≡ true
+    → Looking s t R l total
+looking-of s t R l total g h f = record {
   links = record {
     root-in = g .links .root-in;
     root-top = g .links .root-top;

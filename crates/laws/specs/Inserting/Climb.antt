@@ -47,7 +47,8 @@ only-off d m k e = go (eqb k m) refl
 
 -- ---- links look at lists, kinds and parents only
 
-pub links-same : (s : Settings) (A B : ℕ → Node) (n root es : ℕ) (R x y o : ℕ → ℕ) → ((k : ℕ) → B k .list ≡ A k .list) → ((k : ℕ) → B k .leaf ≡ A k .leaf) → ((k : ℕ) → B k .parent ≡ A k .parent)
+pub links-same : (s : Settings) (A B : ℕ → Node) (n root es : ℕ) (R x y o : ℕ → ℕ) → ((k : ℕ) → B k .list ≡ A k .list) → ((k : ℕ) → B k .leaf ≡ A k .leaf)
+    → ((k : ℕ) → B k .parent ≡ A k .parent)
     → Links s A n root es R x y o → Links s B n root es R x y o
 unfolding inner held
 links-same s A B n root es R x y o hk hl hp g = record {
@@ -55,9 +56,12 @@ links-same s A B n root es R x y o hk hl hp g = record {
   root-top = hp root ∙ g .root-top;
   kid = (λ i c l f q. let r = g .kid i c l (sym (hl i) ∙ f) (subst (λ z. 0 < occurs c z) (hk i) q) in (hp c ∙ r .0, r .1));
   ground = (λ i l f. g .ground i l (sym (hl i) ∙ f));
-  nodes-once = (λ c. ap (λ z. is c root + o c + z) (sum-same (λ i. inner (A i) c) (λ i. inner (B i) c) n (λ k _. ap (λ b. cond b 0 (occurs c (B k .list))) (hl k) ∙ ap (λ z. cond (A k .leaf) 0 (occurs c z)) (hk k))) ∙ g .nodes-once c);
-  entries-once = (λ c. sum-same (λ i. held (A i) c) (λ i. held (B i) c) n (λ k _. ap (λ b. cond b (occurs c (B k .list)) 0) (hl k) ∙ ap (λ z. cond (A k .leaf) (occurs c z) 0) (hk k)) ∙ g .entries-once c);
-  caps = (λ i l. let a : length (B i .list) ≡ length (A i .list) = ap (λ z. length z) (hk i) in let b : cap s (B i .leaf) ≡ cap s (A i .leaf) = ap (λ z. cap s z) (hl i) in let q = g .caps i l in omega arith);
+  nodes-once = (λ c. ap (λ z. is c root + o c + z) (sum-same (λ i. inner (A i) c) (λ i. inner (B i) c) n (λ k _. ap (λ b. cond b 0 (occurs c (B k .list)))
+      (hl k) ∙ ap (λ z. cond (A k .leaf) 0 (occurs c z)) (hk k))) ∙ g .nodes-once c);
+  entries-once = (λ c. sum-same (λ i. held (A i) c) (λ i. held (B i) c) n (λ k _. ap (λ b. cond b (occurs c (B k .list)) 0) (hl k)
+      ∙ ap (λ z. cond (A k .leaf) (occurs c z) 0) (hk k)) ∙ g .entries-once c);
+  caps = (λ i l. let a : length (B i .list) ≡ length (A i .list) = ap (λ z. length z) (hk i) in let b : cap s (B i .leaf) ≡ cap s (A i .leaf) = ap
+      (λ z. cap s z) (hl i) in let q = g .caps i l in omega arith);
   filled = (λ i l. let a : length (B i .list) ≡ length (A i .list) = ap (λ z. length z) (hk i) in let q = g .filled i l in omega arith);
   top = g .top;
   grows = g .grows;
@@ -108,7 +112,9 @@ module _ {s : Settings} (F : Summary → Summary) {t : Tree} {R : ℕ → ℕ} {
 
   pub raised-links : Links s (nodeAt raised) (length (raised .nodes)) (raised .root) (length (raised .entries)) R nil nil nil
   unfolding withNodes
-  raised-links = subst (λ n. Links s (nodeAt raised) n (t .root) (length (t .entries)) R nil nil nil) (sym len) (links-same s (nodeAt t) (nodeAt raised) (length (t .nodes)) (t .root) (length (t .entries)) R nil nil nil kids-same leaf-same parent-same (w .links))
+  raised-links =
+      subst (λ n. Links s (nodeAt raised) n (t .root) (length (t .entries)) R nil nil nil) (sym len)
+      (links-same s (nodeAt t) (nodeAt raised) (length (t .nodes)) (t .root) (length (t .entries)) R nil nil nil kids-same leaf-same parent-same (w .links))
 
   sum-m : nodeAt raised m .summary ≡ F (nodeAt t m .summary)
   unfolding withNodes nodeAt summed
@@ -120,7 +126,9 @@ module _ {s : Settings} (F : Summary → Summary) {t : Tree} {R : ℕ → ℕ} {
 
   exact-m : Exactly (F (nodeAt t m .summary)) (nodeWeight t m + d)
   unfolding nodeWeight
-  exact-m = adds (nodeAt t m .summary) (nodeWeight t m) (w .exact .at-node m (w .here)) (let a = w .low m (w .here) (omega arith) in let b = w .exact .small in omega arith)
+  exact-m =
+      adds (nodeAt t m .summary) (nodeWeight t m) (w .exact .at-node m (w .here)) (let a = w .low m (w .here) (omega arith) in let b = w .exact .small in
+      omega arith)
 
   wt-m : nodeWeight raised m ≡ nodeWeight t m + d
   unfolding nodeWeight
@@ -132,29 +140,44 @@ module _ {s : Settings} (F : Summary → Summary) {t : Tree} {R : ℕ → ℕ} {
 
   raised-exact : Exact raised total
   unfolding withNodes entryWeight entryAt
-  raised-exact = record { at-node = (λ k h. go k (subst (λ n. k < n) len h) (same? k m)); at-entry = w .exact .at-entry; some-entry = w .exact .some-entry; small = w .exact .small }
+  raised-exact =
+      record {
+        at-node = (λ k h. go k (subst (λ n. k < n) len h) (same? k m));
+        at-entry = w .exact .at-entry;
+        some-entry = w .exact .some-entry;
+        small = w .exact .small;
+      }
     where
       go : (k : ℕ) → k < length (t .nodes) → (k ≡ m) ⊎ (k ≢ m) → IsExact (nodeAt raised k .summary)
-      go k h (inl e) = subst (λ z. IsExact (nodeAt raised z .summary)) (sym e) (subst (λ q. IsExact q) (sym sum-m) (exact-is (F (nodeAt t m .summary)) (nodeWeight t m + d) exact-m))
+      go k h (inl e) =
+          subst (λ z. IsExact (nodeAt raised z .summary)) (sym e)
+          (subst (λ q. IsExact q) (sym sum-m) (exact-is (F (nodeAt t m .summary)) (nodeWeight t m + d) exact-m))
       go k h (inr e) = subst (λ q. IsExact q) (sym (sum-o k e)) (w .exact .at-node k h)
 
   -- lists with m once weigh d more, lists without it the same
   own-with : (k : ℕ) → k < length (t .nodes) → nodeAt t k .leaf ≡ false → occurs m (nodeAt t k .list) ≡ 1
       → own (nodeAt raised k) (entryWeight t) (nodeWeight raised) ≡ own (nodeAt t k) (entryWeight t) (nodeWeight t) + d
   own-with k h f o =
-      let a : own (nodeAt raised k) (entryWeight t) (nodeWeight raised) ≡ over (nodeWeight raised) (nodeAt t k .list) = own-inner (nodeAt raised k) (entryWeight t) (nodeWeight raised) (leaf-same k ∙ f) ∙ ap (λ z. over (nodeWeight raised) z) (kids-same k) in
-      let b : own (nodeAt t k) (entryWeight t) (nodeWeight t) ≡ over (nodeWeight t) (nodeAt t k .list) = own-inner (nodeAt t k) (entryWeight t) (nodeWeight t) f in
+      let a : own (nodeAt raised k) (entryWeight t) (nodeWeight raised) ≡ over (nodeWeight raised) (nodeAt t k .list) =
+      own-inner (nodeAt raised k) (entryWeight t) (nodeWeight raised) (leaf-same k ∙ f) ∙ ap (λ z. over (nodeWeight raised) z) (kids-same k) in
+      let b : own (nodeAt t k) (entryWeight t) (nodeWeight t) ≡ over (nodeWeight t) (nodeAt t k .list) =
+      own-inner (nodeAt t k) (entryWeight t) (nodeWeight t) f in
       let c = over-once (nodeWeight raised) (nodeWeight t) m (nodeAt t k .list) o (λ x q e. wt-o x e) in
       let e = wt-m in
       omega arith
 
-  own-without : (k : ℕ) → (nodeAt t k .leaf ≡ true) ⊎ (occurs m (nodeAt t k .list) ≡ 0) → own (nodeAt raised k) (entryWeight t) (nodeWeight raised) ≡ own (nodeAt t k) (entryWeight t) (nodeWeight t)
+  own-without : (k : ℕ) → (nodeAt t k .leaf ≡ true) ⊎ (occurs m (nodeAt t k .list) ≡ 0) → own (nodeAt raised k) (entryWeight t) (nodeWeight raised)
+      ≡ own (nodeAt t k) (entryWeight t) (nodeWeight t)
   own-without k (inl f) =
-      own-leaf (nodeAt raised k) (entryWeight t) (nodeWeight raised) (leaf-same k ∙ f) ∙ ap (λ z. over (entryWeight t) z) (kids-same k) ∙ sym (own-leaf (nodeAt t k) (entryWeight t) (nodeWeight t) f)
+      own-leaf (nodeAt raised k) (entryWeight t) (nodeWeight raised) (leaf-same k ∙ f) ∙ ap (λ z. over (entryWeight t) z) (kids-same k)
+      ∙ sym (own-leaf (nodeAt t k) (entryWeight t) (nodeWeight t) f)
   own-without k (inr o) = go (leaf? (nodeAt t k))
     where
-      go : (nodeAt t k .leaf ≡ true) ⊎ (nodeAt t k .leaf ≡ false) → own (nodeAt raised k) (entryWeight t) (nodeWeight raised) ≡ own (nodeAt t k) (entryWeight t) (nodeWeight t)
-      go (inl f) = own-leaf (nodeAt raised k) (entryWeight t) (nodeWeight raised) (leaf-same k ∙ f) ∙ ap (λ z. over (entryWeight t) z) (kids-same k) ∙ sym (own-leaf (nodeAt t k) (entryWeight t) (nodeWeight t) f)
+      go : (nodeAt t k .leaf ≡ true) ⊎ (nodeAt t k .leaf ≡ false) → own (nodeAt raised k) (entryWeight t) (nodeWeight raised)
+          ≡ own (nodeAt t k) (entryWeight t) (nodeWeight t)
+      go (inl f) =
+          own-leaf (nodeAt raised k) (entryWeight t) (nodeWeight raised) (leaf-same k ∙ f) ∙ ap (λ z. over (entryWeight t) z) (kids-same k)
+          ∙ sym (own-leaf (nodeAt t k) (entryWeight t) (nodeWeight t) f)
       go (inr f) =
           own-inner (nodeAt raised k) (entryWeight t) (nodeWeight raised) (leaf-same k ∙ f) ∙ ap (λ z. over (nodeWeight raised) z) (kids-same k)
           ∙ over-same (nodeWeight raised) (nodeWeight t) (nodeAt t k .list) (λ x q. wt-o x (λ e. off (subst (λ z. 0 < occurs z (nodeAt t k .list)) e q)))
@@ -167,12 +190,14 @@ module _ {s : Settings} (F : Summary → Summary) {t : Tree} {R : ℕ → ℕ} {
   apart : (k : ℕ) → k < length (t .nodes) → (nodeAt t m .parent ≡ some k → ⊥) → (nodeAt t k .leaf ≡ true) ⊎ (occurs m (nodeAt t k .list) ≡ 0)
   apart k h e = go (leaf? (nodeAt t k)) (same? (occurs m (nodeAt t k .list)) 0)
     where
-      go : (nodeAt t k .leaf ≡ true) ⊎ (nodeAt t k .leaf ≡ false) → (occurs m (nodeAt t k .list) ≡ 0) ⊎ (occurs m (nodeAt t k .list) ≢ 0) → (nodeAt t k .leaf ≡ true) ⊎ (occurs m (nodeAt t k .list) ≡ 0)
+      go : (nodeAt t k .leaf ≡ true) ⊎ (nodeAt t k .leaf ≡ false) → (occurs m (nodeAt t k .list) ≡ 0) ⊎ (occurs m (nodeAt t k .list) ≢ 0)
+          → (nodeAt t k .leaf ≡ true) ⊎ (occurs m (nodeAt t k .list) ≡ 0)
       go (inl f) q = inl f
       go (inr f) (inl q) = inr q
       go (inr f) (inr q) = absurd (e (w .links .kid k m h f (omega arith) .0))
 
-  sums-apart : (k : ℕ) → k < length (t .nodes) → (nodeAt t m .parent ≡ some k → ⊥) → nodeWeight raised k ≡ own (nodeAt raised k) (entryWeight t) (nodeWeight raised) + only d l k
+  sums-apart : (k : ℕ) → k < length (t .nodes) → (nodeAt t m .parent ≡ some k → ⊥)
+      → nodeWeight raised k ≡ own (nodeAt raised k) (entryWeight t) (nodeWeight raised) + only d l k
   sums-apart k h e = go (same? k m)
     where
       go : (k ≡ m) ⊎ (k ≢ m) → nodeWeight raised k ≡ own (nodeAt raised k) (entryWeight t) (nodeWeight raised) + only d l k
@@ -193,7 +218,10 @@ module _ {s : Settings} (F : Summary → Summary) {t : Tree} {R : ℕ → ℕ} {
   bound′ k h = go (same? k m)
     where
       go : (k ≡ m) ⊎ (k ≢ m) → nodeWeight raised k ≤ total
-      go (inl q) = let a : nodeWeight raised k ≡ nodeWeight t m + d = ap (λ z. nodeWeight raised z) q ∙ wt-m in let b = w .low m (w .here) (omega arith) in omega arith
+      go (inl q) =
+          let a : nodeWeight raised k ≡ nodeWeight t m + d = ap (λ z. nodeWeight raised z) q ∙ wt-m in
+          let b = w .low m (w .here) (omega arith) in
+          omega arith
       go (inr q) = let a = wt-o k q in let b = w .bound k h in omega arith
 
   -- no parent: done
@@ -268,19 +296,22 @@ unfolding climbed
 climb-none F zero ns = refl
 climb-none F (suc k) ns = refl
 
-pub climb-up : (s : Settings) (F : Summary → Summary) (k : ℕ) (t : Tree) (R : ℕ → ℕ) (d m l total : ℕ) → Adds F d → Waiting s t R d m l total → R (t .root) < R m + k → Pushed s (withNodes (climbed F k (some m) (t .nodes)) t) R d l total
+pub climb-up : (s : Settings) (F : Summary → Summary) (k : ℕ) (t : Tree) (R : ℕ → ℕ) (d m l total : ℕ) → Adds F d → Waiting s t R d m l total
+    → R (t .root) < R m + k → Pushed s (withNodes (climbed F k (some m) (t .nodes)) t) R d l total
 unfolding climbed withNodes nodeAt
 climb-up s F zero t R d m l total a w h = let q = w .links .top m (w .here) in absurd (omega arith)
 climb-up s F (suc k) t R d m l total a w h = go (nodeAt t m .parent) refl (λ p v q. climb-up s F k (raised F a w) R d p l total a v q)
   where
     go : (o : Option ℕ) → nodeAt t m .parent ≡ o
-        → ((p : ℕ) → Waiting s (raised F a w) R d p l total → R (t .root) < R p + k → Pushed s (withNodes (climbed F k (some p) (changeAt (summed F) m (t .nodes))) t) R d l total)
+        → ((p : ℕ) → Waiting s (raised F a w) R d p l total → R (t .root) < R p + k → Pushed s
+        (withNodes (climbed F k (some p) (changeAt (summed F) m (t .nodes))) t) R d l total)
         → Pushed s (withNodes (climbed F k o (changeAt (summed F) m (t .nodes))) t) R d l total
     go none e ih = subst (λ ns. Pushed s (withNodes ns t) R d l total) (sym (climb-none F k (changeAt (summed F) m (t .nodes)))) (last-step F a w e)
     go (some p) e ih = ih p (next-step F a w p e) (let q = up-rank F a w p e in omega arith)
 
 -- the path of a leaf, all of it
-pub path-pushed : (s : Settings) (F : Summary → Summary) (t : Tree) (R : ℕ → ℕ) (d l total : ℕ) → Adds F d → Settled s t R total → l < length (t .nodes) → nodeAt t l .leaf ≡ true → total + d ≤ most
+pub path-pushed : (s : Settings) (F : Summary → Summary) (t : Tree) (R : ℕ → ℕ) (d l total : ℕ) → Adds F d → Settled s t R total → l < length (t .nodes)
+    → nodeAt t l .leaf ≡ true → total + d ≤ most
     → Pushed s (alongPath F l t) R d l (total + d)
 unfolding alongPath
 path-pushed s F t R d l total a g h f b =

@@ -35,11 +35,14 @@ first-in f (c ∷ cs) h =
 
 -- ---- the descent
 
-pub down : (s : Settings) (t : Tree) (f : Summary → Float) (R x y o : ℕ → ℕ) → Links s (nodeAt t) (length (t .nodes)) (t .root) (length (t .entries)) R x y o → (k m : ℕ) → m < length (t .nodes) → R m ≤ k
+-- each step goes a rank down, and rank 0 is a leaf
+pub descends : (s : Settings) (t : Tree) (f : Summary → Float) (R x y o : ℕ → ℕ)
+    → Links s (nodeAt t) (length (t .nodes)) (t .root) (length (t .entries)) R x y o
+    → (k m : ℕ) → m < length (t .nodes) → R m ≤ k
     → (descended t f k m < length (t .nodes)) × (nodeAt t (descended t f k m) .leaf ≡ true)
 unfolding descended
-down s t f R x y o g zero m l h = (l, rank-zero g m l (omega arith))
-down s t f R x y o g (suc k) m l h = go (nodeAt t m .leaf) refl (λ c q z. down s t f R x y o g k c q z)
+descends s t f R x y o g zero m l h = (l, rank-zero g m l (omega arith))
+descends s t f R x y o g (suc k) m l h = go (nodeAt t m .leaf) refl (λ c q z. descends s t f R x y o g k c q z)
   where
     Ends : ℕ → Type 0
     Ends z = (z < length (t .nodes)) × (nodeAt t z .leaf ≡ true)
@@ -54,7 +57,9 @@ down s t f R x y o g (suc k) m l h = go (nodeAt t m .leaf) refl (λ c q z. down 
         let q = g .kid m c l e o′ .1 in
         ih c (kid-in g m c l e o′ .0) (omega arith)
 
-pub leaf-found : (s : Settings) (t : Tree) (f : Summary → Float) (R x y o : ℕ → ℕ) → Links s (nodeAt t) (length (t .nodes)) (t .root) (length (t .entries)) R x y o
+-- a descent from the root ends in a leaf of the tree
+pub leaf-found : (s : Settings) (t : Tree) (f : Summary → Float) (R x y o : ℕ → ℕ)
+    → Links s (nodeAt t) (length (t .nodes)) (t .root) (length (t .entries)) R x y o
     → (leafFor t f < length (t .nodes)) × (nodeAt t (leafFor t f) .leaf ≡ true)
 unfolding leafFor
-leaf-found s t f R x y o g = down s t f R x y o g (length (t .nodes)) (t .root) (g .root-in) (let h = height g in omega arith)
+leaf-found s t f R x y o g = descends s t f R x y o g (length (t .nodes)) (t .root) (g .root-in) (let h = height g in omega arith)

@@ -20,7 +20,7 @@ use Rattle.laws.specs.Counting.Lists.{change-at, change-off, length-chan
 use Rattle.laws.specs.Invariant.Weigh.{own, own-leaf, own-inner}
 use Rattle.laws.specs.Invariant.Sound.{entryWeight, nodeWeight, Settled, Looking}
 use Rattle.laws.specs.Inserting.Climb.{only, only-at, only-off, Adds, Pushed}
-use Rattle.laws.specs.Inserting.Begun.{looked}
+use Rattle.laws.specs.Inserting.Begun.{looking-of}
 use Rattle.laws.specs.Inserting.Listed.{held-in, held-one}
 
 -- ---- an entry of l's list takes d in
@@ -28,7 +28,8 @@ use Rattle.laws.specs.Inserting.Listed.{held-in, held-one}
 abbrev pub fed : (Summary → Summary) → ℕ → Tree → Tree
 fed F e t = withEntries (changeAt F e (t .entries)) t
 
-module _ {s : Settings} (F : Summary → Summary) {t : Tree} {R : ℕ → ℕ} {d l total : ℕ} (e : ℕ) (adds : Adds F d) (g : Pushed s t R d l total) (h : l < length (t .nodes)) (f : nodeAt t l .leaf ≡ true) (o : 0 < occurs e (nodeAt t l .list)) where
+module _ {s : Settings} (F : Summary → Summary) {t : Tree} {R : ℕ → ℕ} {d l total : ℕ} (e : ℕ) (adds : Adds F d) (g : Pushed s t R d l total)
+    (h : l < length (t .nodes)) (f : nodeAt t l .leaf ≡ true) (o : 0 < occurs e (nodeAt t l .list)) where
   pub inside : e < length (t .entries)
   inside = held-in s (nodeAt t) (length (t .nodes)) (t .root) (length (t .entries)) R nil nil nil (g .links) l e h f o .0
 
@@ -67,23 +68,28 @@ module _ {s : Settings} (F : Summary → Summary) {t : Tree} {R : ℕ → ℕ} {
   unfolding withEntries
   fed-length = length-change F e (t .entries)
 
-  fed-own : (k : ℕ) → k < length (t .nodes) → own (nodeAt t k) (entryWeight (fed F e t)) (nodeWeight t) ≡ own (nodeAt t k) (entryWeight t) (nodeWeight t) + only d l k
+  fed-own : (k : ℕ) → k < length (t .nodes) → own (nodeAt t k) (entryWeight (fed F e t)) (nodeWeight t)
+      ≡ own (nodeAt t k) (entryWeight t) (nodeWeight t) + only d l k
   fed-own k q = go (same? k l) (leaf? (nodeAt t k))
     where
-      go : (k ≡ l) ⊎ (k ≢ l) → (nodeAt t k .leaf ≡ true) ⊎ (nodeAt t k .leaf ≡ false) → own (nodeAt t k) (entryWeight (fed F e t)) (nodeWeight t) ≡ own (nodeAt t k) (entryWeight t) (nodeWeight t) + only d l k
+      go : (k ≡ l) ⊎ (k ≢ l) → (nodeAt t k .leaf ≡ true) ⊎ (nodeAt t k .leaf ≡ false) → own (nodeAt t k) (entryWeight (fed F e t)) (nodeWeight t)
+          ≡ own (nodeAt t k) (entryWeight t) (nodeWeight t) + only d l k
       go (inl z) (inr fk) = absurd (not-both (nodeAt t l .leaf) f (ap (λ y. nodeAt t y .leaf) (sym z) ∙ fk))
       go (inl z) (inl fk) =
           let ok : 0 < occurs e (nodeAt t k .list) = subst (λ y. 0 < occurs e (nodeAt t y .list)) (sym z) o in
           let a = own-leaf (nodeAt t k) (entryWeight (fed F e t)) (nodeWeight t) fk in
           let b = own-leaf (nodeAt t k) (entryWeight t) (nodeWeight t) fk in
-          let c = over-once (entryWeight (fed F e t)) (entryWeight t) e (nodeAt t k .list) (held-in s (nodeAt t) (length (t .nodes)) (t .root) (length (t .entries)) R nil nil nil (g .links) k e q fk ok .1) (λ c p r. few-off c r) in
+          let c = over-once (entryWeight (fed F e t)) (entryWeight t) e (nodeAt t k .list) (held-in s (nodeAt t) (length (t .nodes)) (t .root)
+          (length (t .entries)) R nil nil nil (g .links) k e q fk ok .1) (λ c p r. few-off c r) in
           let m = few-at in
           let w = only-at d l k z in
           omega arith
       go (inr z) (inl fk) =
           let a = own-leaf (nodeAt t k) (entryWeight (fed F e t)) (nodeWeight t) fk in
           let b = own-leaf (nodeAt t k) (entryWeight t) (nodeWeight t) fk in
-          let c = over-same (entryWeight (fed F e t)) (entryWeight t) (nodeAt t k .list) (λ c p. few-off c (λ r. z (held-one s (nodeAt t) (length (t .nodes)) (t .root) (length (t .entries)) R nil nil nil (g .links) k l e q h fk f (subst (λ y. 0 < occurs y (nodeAt t k .list)) r p) o))) in
+          let c = over-same (entryWeight (fed F e t)) (entryWeight t) (nodeAt t k .list)
+          (λ c p. few-off c (λ r. z (held-one s (nodeAt t) (length (t .nodes)) (t .root) (length (t .entries)) R nil nil nil (g .links) k l e q h fk f
+          (subst (λ y. 0 < occurs y (nodeAt t k .list)) r p) o))) in
           let w = only-off d l k z in
           omega arith
       go (inr z) (inr fk) =
@@ -98,7 +104,8 @@ module _ {s : Settings} (F : Summary → Summary) {t : Tree} {R : ℕ → ℕ} {
       go : (c ≡ e) ⊎ (c ≢ e) → IsExact (entryAt (fed F e t) c) × (1 ≤ entryWeight (fed F e t) c)
       go (inl z) = (
         subst (λ y. IsExact (entryAt (fed F e t) y)) (sym z) (subst (λ m. IsExact m) (sym fed-at) (exact-is (F (entryAt t e)) (entryWeight t e + d) exact-e)),
-        (let a : entryWeight (fed F e t) c ≡ entryWeight t e + d = ap (λ y. entryWeight (fed F e t) y) z ∙ few-at in let b = g .exact .some-entry e inside in omega arith),
+        (let a : entryWeight (fed F e t) c ≡ entryWeight t e + d = ap (λ y. entryWeight (fed F e t) y) z ∙ few-at in let b = g .exact .some-entry e inside in
+            omega arith),
       )
       go (inr z) = (
         subst (λ m. IsExact m) (sym (fed-off c z)) (g .exact .at-entry c q),
@@ -120,4 +127,4 @@ module _ {s : Settings} (F : Summary → Summary) {t : Tree} {R : ℕ → ℕ} {
 
   pub fed-looking : Looking s (fed F e t) R l total
   unfolding withEntries nodeAt
-  fed-looking = looked s (fed F e t) R l total fed-settled h f
+  fed-looking = looking-of s (fed F e t) R l total fed-settled h f

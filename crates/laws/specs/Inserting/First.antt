@@ -27,11 +27,12 @@ use Rattle.laws.specs.Invariant.Links.{Links, inner, held, nil, rankCoun
 use Rattle.laws.specs.Invariant.Weights.{Exactly, exact-count, exact-is, push-weigh, merge-weight, blank-exact}
 use Rattle.laws.specs.Invariant.Weigh.{own, pick}
 use Rattle.laws.specs.Invariant.Sound.{entryWeight, nodeWeight, Caps}
-use Rattle.laws.specs.Inserting.Grown.{Placed, Whole, settle, entry-in, row-in}
+use Rattle.laws.specs.Inserting.Grown.{Placed, Whole, settled-whole, entry-in, row-in}
 
 -- one leaf of list ks and summary z, and entries es
 abbrev pub lone : Summary → List ℕ → List Summary → Float → ℕ → ℕ → Tree
-lone z ks es h r m = record { nodes = record { summary = z; list = ks; leaf = true; parent = none } ∷ []; entries = es; root = 0; threshold = h; rebuilds = r; merged = m }
+lone z ks es h r m =
+    record { nodes = record { summary = z; list = ks; leaf = true; parent = none } ∷ []; entries = es; root = 0; threshold = h; rebuilds = r; merged = m }
 
 abbrev pub emptyTree : Summary → Float → ℕ → ℕ → Tree
 emptyTree z h r m = lone z [] [] h r m
@@ -91,13 +92,16 @@ module _ (s : Settings) (z e : Summary) (h : Float) (r m d : ℕ) (hz : Exactly 
     looking = record {
       links = one-links;
       exact = record {
-        at-node = (λ k l. subst (λ y. (nodeAt t y .summary .weight ≡ whole (rowsIn (nodeAt t y .summary))) × (rowsIn (nodeAt t y .summary) ≤ most)) (sym (only-zero k l)) (exact-is z d hz));
-        at-entry = (λ k l. subst (λ y. (entryAt t y .weight ≡ whole (rowsIn (entryAt t y))) × (rowsIn (entryAt t y) ≤ most)) (sym (only-zero k l)) (exact-is e d he));
+        at-node = (λ k l. subst (λ y. (nodeAt t y .summary .weight ≡ whole (rowsIn (nodeAt t y .summary))) × (rowsIn (nodeAt t y .summary) ≤ most))
+            (sym (only-zero k l)) (exact-is z d hz));
+        at-entry = (λ k l. subst (λ y. (entryAt t y .weight ≡ whole (rowsIn (entryAt t y))) × (rowsIn (entryAt t y) ≤ most)) (sym (only-zero k l))
+            (exact-is e d he));
         some-entry = (λ k l. subst (λ y. 1 ≤ entryWeight t y) (sym (only-zero k l)) (let a = we in omega arith));
         small = hz .1;
       };
       weighs = record {
-        sums = (λ k l. subst (λ y. nodeWeight t y ≡ own (nodeAt t y) (entryWeight t) (nodeWeight t)) (sym (only-zero k l)) (let a = wz in let b = we in let c = own-0 in omega arith));
+        sums = (λ k l. subst (λ y. nodeWeight t y ≡ own (nodeAt t y) (entryWeight t) (nodeWeight t)) (sym (only-zero k l))
+            (let a = wz in let b = we in let c = own-0 in omega arith));
         bound = (λ k l. subst (λ y. nodeWeight t y ≤ d) (sym (only-zero k l)) (let a = wz in omega arith));
         whole-tree = wz;
       };
@@ -142,17 +146,22 @@ first-row : (s : Settings) (x : List Float) (z : Summary) (h : Float) (r m : ℕ
 unfolding placed absorbedOrBegun searched searching leafFor descended alongPath climbed changeAt summed begun adding listing snoc withNodes withEntries nodeAt
 first-row s x z h r m e = (nil, one-placed s (push s x z) (push s x blank) h r m 1 e (push-weigh s x blank 0 blank-exact (omega arith)) (omega arith))
 
+-- a row in its leaf, before any split
 pub row-placed : (s : Settings) (x : List Float) (t : Tree) (total : ℕ) → Caps s → Holding s t total → total < most → PlacedRow s x (suc total) t
 row-placed s x t total c (inl b) h =
     let q = b .0 in
-    subst (λ u. PlacedRow s x (suc total) u) (sym (q .5)) (subst (λ k. PlacedRow s x (suc k) (emptyTree (q .0) (q .1) (q .2) (q .3))) (sym (b .1)) (first-row s x (q .0) (q .1) (q .2) (q .3) (push-zero s x (q .0) (q .4))))
+    subst (λ u. PlacedRow s x (suc total) u) (sym (q .5)) (subst (λ k. PlacedRow s x (suc k) (emptyTree (q .0) (q .1) (q .2) (q .3))) (sym (b .1))
+    (first-row s x (q .0) (q .1) (q .2) (q .3) (push-zero s x (q .0) (q .4))))
 row-placed s x t total c (inr w) h =
     let e : total + 1 ≡ suc total = omega arith in
     (w .0, subst (λ k. Placed s (rowPlaced s x t) (w .0) (leafFor t (λ c. distTo s c x)) k) e (row-in x c (w .1) (w .2) (omega arith)))
 
+-- a row in, splits done: the invariant, and one row more
 pub grown-holds : (s : Settings) (x : List Float) (t : Tree) (total : ℕ) → Caps s → Holding s t total → total < most → Whole s (grown s x t) (suc total)
 unfolding grown grownAt
-grown-holds s x t total c k h = let p = row-placed s x t total c k h in settle s (rowPlaced s x t) (p .0) (leafFor t (λ c. distTo s c x)) (suc total) c (p .1)
+grown-holds s x t total c k h =
+    let p = row-placed s x t total c k h in
+    settled-whole s (rowPlaced s x t) (p .0) (leafFor t (λ c. distTo s c x)) (suc total) c (p .1)
 
 -- an empty tree of weight exactly 0, as a clearing leaves it, or a settled one
 abbrev pub Ready : Settings → Tree → ℕ → Type 0
@@ -168,14 +177,21 @@ first-entry : (s : Settings) (e z : Summary) (h : Float) (r m d : ℕ) → Exact
 unfolding leafFor descended alongPath climbed changeAt summed begun adding listing snoc withNodes withEntries nodeAt
 first-entry s e z h r m d hz he pos = (nil, one-placed s (merge s z e) e h r m d hz he pos)
 
-pub entry-placed : (s : Settings) (e : Summary) (t : Tree) (d total : ℕ) → Ready s t total → Exactly e d → 1 ≤ d → total + d ≤ most → PlacedEntry s e (total + d) t
+-- an entry in its leaf, before any split
+pub entry-placed : (s : Settings) (e : Summary) (t : Tree) (d total : ℕ) → Ready s t total → Exactly e d → 1 ≤ d → total + d ≤ most
+    → PlacedEntry s e (total + d) t
 entry-placed s e t d total (inl q) x pos b =
     let z = q .0 in
     let k : d ≡ total + d = let w = q .6 in omega arith in
     subst (λ u. PlacedEntry s e (total + d) u) (sym (q .5)) (subst (λ n. PlacedEntry s e n (emptyTree z (q .1) (q .2) (q .3))) k
-    (first-entry s e z (q .1) (q .2) (q .3) d (subst (λ y. Exactly (merge s z e) y) (let w : 0 + d ≡ d = omega arith in w) (merge-weight s z e 0 d (q .4) x (omega arith))) x pos))
+    (first-entry s e z (q .1) (q .2) (q .3) d (subst (λ y. Exactly (merge s z e) y) (let w : 0 + d ≡ d = omega arith in w)
+    (merge-weight s z e 0 d (q .4) x (omega arith))) x pos))
 entry-placed s e t d total (inr w) x pos b = (w .0, entry-in s e t (w .0) d total (w .1) (w .2) x pos b)
 
-pub place-ready : (s : Settings) (e : Summary) (t : Tree) (d total : ℕ) → Caps s → Ready s t total → Exactly e d → 1 ≤ d → total + d ≤ most → Whole s (replaced s e t) (total + d)
+-- an entry placed, splits done: the invariant, and its rows more
+pub place-ready : (s : Settings) (e : Summary) (t : Tree) (d total : ℕ) → Caps s → Ready s t total → Exactly e d → 1 ≤ d → total + d ≤ most
+    → Whole s (replaced s e t) (total + d)
 unfolding replaced
-place-ready s e t d total c k x pos b = let p = entry-placed s e t d total k x pos b in settle s (entryPlaced s e t) (p .0) (leafFor t (λ c. distBetween s c e)) (total + d) c (p .1)
+place-ready s e t d total c k x pos b =
+    let p = entry-placed s e t d total k x pos b in
+    settled-whole s (entryPlaced s e t) (p .0) (leafFor t (λ c. distBetween s c e)) (total + d) c (p .1)

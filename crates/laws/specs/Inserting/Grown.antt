@@ -36,11 +36,13 @@ use Rattle.laws.specs.Inserting.Fed.{fed, fed-looking, inside, fed-lengt
 
 -- ---- a climb changes summaries only
 
-pub climb-keeps : {B : Type 0} (F : Summary → Summary) (g : Node → B) → ((m : Node) → g (summed F m) ≡ g m) → (k : ℕ) (o : Option ℕ) (ns : List Node) (i : ℕ) → g (getD (climbed F k o ns) i blankNode) ≡ g (getD ns i blankNode)
+pub climb-keeps : {B : Type 0} (F : Summary → Summary) (g : Node → B) → ((m : Node) → g (summed F m) ≡ g m) → (k : ℕ) (o : Option ℕ) (ns : List Node) (i : ℕ)
+    → g (getD (climbed F k o ns) i blankNode) ≡ g (getD ns i blankNode)
 unfolding climbed
 climb-keeps F g h zero o ns i = refl
 climb-keeps F g h (suc k) none ns i = refl
-climb-keeps F g h (suc k) (some n) ns i = climb-keeps F g h k (getD ns n blankNode .parent) (changeAt (summed F) n ns) i ∙ change-keeps g (summed F) n i blankNode ns h
+climb-keeps F g h (suc k) (some n) ns i =
+    climb-keeps F g h k (getD ns n blankNode .parent) (changeAt (summed F) n ns) i ∙ change-keeps g (summed F) n i blankNode ns h
 
 climb-length : (F : Summary → Summary) (k : ℕ) (o : Option ℕ) (ns : List Node) → length (climbed F k o ns) ≡ length ns
 unfolding climbed
@@ -63,7 +65,8 @@ abbrev pub Hit : (ℕ → Type 0) → Nearest → Type 0
 Hit P Nothing = Unit
 Hit P (Entry e) = P e
 
-searching-among : (P : ℕ → Type 0) (f : ℕ → Float) (b : Search) (ks : List ℕ) → Hit P (b .near) → ((c : ℕ) → 0 < occurs c ks → P c) → Hit P (searching f b ks .near)
+searching-among : (P : ℕ → Type 0) (f : ℕ → Float) (b : Search) (ks : List ℕ) → Hit P (b .near) → ((c : ℕ) → 0 < occurs c ks → P c)
+    → Hit P (searching f b ks .near)
 unfolding searching better
 searching-among P f b [] hb h = hb
 searching-among P f b (k ∷ ks) hb h =
@@ -86,14 +89,16 @@ pub record Placed (s : Settings) (t : Tree) (R : ℕ → ℕ) (l total : ℕ) : 
   pub counted : Counted t total
   pub here : l < length (t .nodes)
 
-module _ {s : Settings} {t : Tree} {R : ℕ → ℕ} {d l : ℕ} (old : ℕ) (g : Pushed s t R d l (old + d)) (h : l < length (t .nodes)) (f : nodeAt t l .leaf ≡ true) (n : Counted t old) where
+module _ {s : Settings} {t : Tree} {R : ℕ → ℕ} {d l : ℕ} (old : ℕ) (g : Pushed s t R d l (old + d)) (h : l < length (t .nodes)) (f : nodeAt t l .leaf ≡ true)
+    (n : Counted t old) where
   pub put-new : (e : Summary) → Exactly e d → 1 ≤ d → Placed s (begun l e t) R l (old + d)
   unfolding sumTo
   put-new e x pos = record {
     looking = new-looking e g h f x pos;
     counted =
         ap (λ m. sumTo (entryWeight (begun l e t)) m) (begun-entries e g h f x pos)
-        ∙ ap (λ z. z + entryWeight (begun l e t) (length (t .entries))) (sum-same (entryWeight t) (entryWeight (begun l e t)) (length (t .entries)) (λ c q. ew-old e g h f x pos c q) ∙ n)
+        ∙ ap (λ z. z + entryWeight (begun l e t) (length (t .entries))) (sum-same (entryWeight t) (entryWeight (begun l e t)) (length (t .entries))
+        (λ c q. ew-old e g h f x pos c q) ∙ n)
         ∙ ap (λ z. old + z) (ew-new e g h f x pos);
     here = subst (λ m. l < m) (sym (begun-nodes e g h f x pos)) h;
   }
@@ -117,9 +122,10 @@ module _ {s : Settings} {t : Tree} {R : ℕ → ℕ} {d l : ℕ} (old : ℕ) (g 
 abbrev pub Whole : Settings → Tree → ℕ → Type 0
 Whole s t total = (R : ℕ → ℕ) × Settled s t R total × Counted t total
 
-pub settle : (s : Settings) (t : Tree) (R : ℕ → ℕ) (l total : ℕ) → Caps s → Placed s t R l total → Whole s (settled s l t) total
+-- the splits make of a tree that is looked at in one leaf a settled one
+pub settled-whole : (s : Settings) (t : Tree) (R : ℕ → ℕ) (l total : ℕ) → Caps s → Placed s t R l total → Whole s (settled s l t) total
 unfolding settled entryWeight entryAt
-settle s t R l total c p =
+settled-whole s t R l total c p =
     let r = split-up s (length (t .nodes)) l t R total c (p .looking) (p .here) (let q = height (p .looking .links) in omega arith) in
     (r .0, r .1, ap (λ es. sumTo (λ k. rowsIn (getD es k blank)) (length es)) (splitUp-entries s (length (t .nodes)) l t) ∙ p .counted)
 
@@ -136,7 +142,8 @@ unfolding entryWeight entryAt alongPath withNodes
 path-counted F l t old n = n
 
 module _ {s : Settings} (x : List Float) {t : Tree} {R : ℕ → ℕ} {old : ℕ} (c : Caps s) (g : Settled s t R old) (n : Counted t old) (b : old + 1 ≤ most) where
-  pub join : (l : ℕ) → l < length (t .nodes) → nodeAt t l .leaf ≡ true → (r : Nearest) → Hit (λ e. 0 < occurs e (nodeAt (alongPath (push s x) l t) l .list)) r → Placed s (absorbedOrBegun s x l r (alongPath (push s x) l t)) R l (old + 1)
+  pub join : (l : ℕ) → l < length (t .nodes) → nodeAt t l .leaf ≡ true → (r : Nearest) → Hit (λ e. 0 < occurs e (nodeAt (alongPath (push s x) l t) l .list)) r
+      → Placed s (absorbedOrBegun s x l r (alongPath (push s x) l t)) R l (old + 1)
   unfolding absorbedOrBegun absorbed
   join l h f r a = go r a
     where
@@ -158,7 +165,8 @@ module _ {s : Settings} (x : List Float) {t : Tree} {R : ℕ → ℕ} {old : ℕ
       fresh-one : Placed s (begun l (push s x blank) (alongPath (push s x) l t)) R l (old + 1)
       fresh-one = put-new old p hu fu nu (push s x blank) (new-exact s x) (omega arith)
 
-      go : (r : Nearest) → Hit (λ e. 0 < occurs e (nodeAt (alongPath (push s x) l t) l .list)) r → Placed s (absorbedOrBegun s x l r (alongPath (push s x) l t)) R l (old + 1)
+      go : (r : Nearest) → Hit (λ e. 0 < occurs e (nodeAt (alongPath (push s x) l t) l .list)) r
+          → Placed s (absorbedOrBegun s x l r (alongPath (push s x) l t)) R l (old + 1)
       go Nothing a = fresh-one
       go (Entry e) a = pick (absorbs s x e (alongPath (push s x) l t))
         where
@@ -166,7 +174,8 @@ module _ {s : Settings} (x : List Float) {t : Tree} {R : ℕ → ℕ} {old : ℕ
           pick true = put-fed old p hu fu nu (push s x) e (push-adds s x) a
           pick false = fresh-one
 
-  pub row-in : Placed s (placed s x (leafFor t (λ c. distTo s c x)) (alongPath (push s x) (leafFor t (λ c. distTo s c x)) t)) R (leafFor t (λ c. distTo s c x)) (old + 1)
+  pub row-in : Placed s (placed s x (leafFor t (λ c. distTo s c x)) (alongPath (push s x) (leafFor t (λ c. distTo s c x)) t)) R
+      (leafFor t (λ c. distTo s c x)) (old + 1)
   unfolding placed
   row-in =
       let l = leafFor t (λ c. distTo s c x) in
@@ -180,7 +189,8 @@ merge-adds : (f : Settings) (e : Summary) (d : ℕ) → Exactly e d → Adds (λ
 merge-adds f e d x a v h b = merge-weight f a e v d h x b
 
 pub entry-in : (s : Settings) (e : Summary) (t : Tree) (R : ℕ → ℕ) (d old : ℕ) → Settled s t R old → Counted t old → Exactly e d → 1 ≤ d → old + d ≤ most
-    → Placed s (begun (leafFor t (λ c. distBetween s c e)) e (alongPath (λ c. merge s c e) (leafFor t (λ c. distBetween s c e)) t)) R (leafFor t (λ c. distBetween s c e)) (old + d)
+    → Placed s (begun (leafFor t (λ c. distBetween s c e)) e (alongPath (λ c. merge s c e) (leafFor t (λ c. distBetween s c e)) t)) R
+    (leafFor t (λ c. distBetween s c e)) (old + d)
 entry-in s e t R d old g n x pos b =
     let l = leafFor t (λ c. distBetween s c e) in
     let q = leaf-found s t (λ c. distBetween s c e) R nil nil nil (g .links) in

@@ -1,22 +1,22 @@
 -- An entry more, last in a leaf: the links.
-use Prim.Native.Nat.{ℕ, suc, _+_, _≤_, _<_}
+use Prim.Native.Nat.{ℕ, suc, _+_, _<_}
 use mathlib.Core.Path.{_≡_, sym, ap, _∙_, subst}
 use mathlib.Core.Logic.{_⊎_, inl, inr, _≢_}
 use mathlib.Core.Bool.{true, false, cond}
 use mathlib.Core.Option.{some}
 use native.Mathlib.Omega.{arith}
-use lib.ListN.{length}
 use Rattle.head.specs.declared.Settings.{Settings}
 use Rattle.rules.specs.Lists.{occurs}
-use Rattle.rules.specs.Tree.{Node, cap}
-use Rattle.laws.specs.Counting.Count.{is, is-same, is-other, same?, below, below-lt, below-le, below-suc}
-use Rattle.laws.specs.Counting.Sums.{occurs-snoc, length-snoc, sumTo, sum-same, sum-change, sum-at, sum-two}
+use Rattle.rules.specs.Tree.{Node}
+use Rattle.laws.specs.Counting.Count.{is, is-other, same?, below, below-lt, below-le, below-suc}
+use Rattle.laws.specs.Counting.Sums.{occurs-snoc, sumTo, sum-same, sum-change, sum-at, sum-two}
 use Rattle.laws.specs.Invariant.Links.{Links, inner, held, inner-no, inner-yes, held-yes, leaf?, nil, not-both}
-use Rattle.laws.specs.Splitting.Tied.{Added}
+use Rattle.laws.specs.Splitting.Tied.{Added, added-caps, added-filled}
 
 -- ---- links: entry number es is listed last in leaf l
 
-module _ {s : Settings} {A B : ℕ → Node} {n root es : ℕ} {R : ℕ → ℕ} {l : ℕ} (g : Links s A n root es R nil nil nil) (b : Added A B l es) (h : l < n) (f : A l .leaf ≡ true) where
+module _ {s : Settings} {A B : ℕ → Node} {n root es : ℕ} {R : ℕ → ℕ} {l : ℕ} (g : Links s A n root es R nil nil nil) (b : Added A B l es) (h : l < n)
+    (f : A l .leaf ≡ true) where
   not-l : (k : ℕ) → B k .leaf ≡ false → k ≢ l
   not-l k q e = not-both (A l .leaf) f (ap (λ z. A z .leaf) (sym e) ∙ sym (b .leaf-o k) ∙ q)
 
@@ -40,33 +40,11 @@ module _ {s : Settings} {A B : ℕ → Node} {n root es : ℕ} {R : ℕ → ℕ}
   new-entries c =
       let a = sum-change (λ k. held (A k) c) (λ k. held (B k) c) l n h (λ k q d. new-held c k d) in
       let u : held (A l) c ≡ occurs c (A l .list) = held-yes (A l) c f in
-      let v : held (B l) c ≡ occurs c (A l .list) + is c es = held-yes (B l) c (b .leaf-o l ∙ f) ∙ ap (λ z. occurs c z) (b .kids-p) ∙ occurs-snoc c (A l .list) es in
+      let v : held (B l) c ≡ occurs c (A l .list) + is c es =
+      held-yes (B l) c (b .leaf-o l ∙ f) ∙ ap (λ z. occurs c z) (b .kids-p) ∙ occurs-snoc c (A l .list) es in
       let w = g .entries-once c in
       let m = below-suc c es in
       omega arith
-
-  new-caps : (k : ℕ) → k < n → length (B k .list) ≤ cap s (B k .leaf) + is l k
-  new-caps k q = go (same? k l)
-    where
-      go : (k ≡ l) ⊎ (k ≢ l) → length (B k .list) ≤ cap s (B k .leaf) + is l k
-      go (inl e) =
-          let a : length (B k .list) ≡ suc (length (A k .list)) = ap (λ z. length (B z .list)) e ∙ ap (λ z. length z) (b .kids-p) ∙ length-snoc (A l .list) es ∙ ap (λ z. suc (length (A z .list))) (sym e) in
-          let d : cap s (B k .leaf) ≡ cap s (A k .leaf) = ap (λ z. cap s z) (b .leaf-o k) in
-          let m = g .caps k q in
-          let u : is l k ≡ 1 = is-same l k (sym e) in
-          omega arith
-      go (inr e) =
-          let a : length (B k .list) ≡ length (A k .list) = ap (λ z. length z) (b .kids-o k e) in
-          let d : cap s (B k .leaf) ≡ cap s (A k .leaf) = ap (λ z. cap s z) (b .leaf-o k) in
-          let m = g .caps k q in
-          omega arith
-
-  new-filled : (k : ℕ) → k < n → 0 < length (B k .list)
-  new-filled k q = go (same? k l)
-    where
-      go : (k ≡ l) ⊎ (k ≢ l) → 0 < length (B k .list)
-      go (inl e) = let a : length (B k .list) ≡ suc (length (A l .list)) = ap (λ z. length (B z .list)) e ∙ ap (λ z. length z) (b .kids-p) ∙ length-snoc (A l .list) es in omega arith
-      go (inr e) = let a : length (B k .list) ≡ length (A k .list) = ap (λ z. length z) (b .kids-o k e) in let m = g .filled k q in omega arith
 
   pub new-links : Links s B n root (suc es) R (is l) (is (R l)) nil
   new-links = record {
@@ -76,8 +54,8 @@ module _ {s : Settings} {A B : ℕ → Node} {n root es : ℕ} {R : ℕ → ℕ}
     ground = (λ k q u. g .ground k q (sym (b .leaf-o k) ∙ u));
     nodes-once = (λ c. ap (λ z. is c root + 0 + z) (sum-same (λ k. inner (A k) c) (λ k. inner (B k) c) n (λ k q. new-inner c k)) ∙ g .nodes-once c);
     entries-once = new-entries;
-    caps = new-caps;
-    filled = new-filled;
+    caps = added-caps g b;
+    filled = added-filled g b;
     top = g .top;
     grows = (λ r. let a = g .grows r in let z : is (R l) (suc r) ≡ 0 = is-other (R l) (suc r) (λ e. clash r (g .ground l h f) e) in omega arith);
   }
@@ -86,7 +64,8 @@ module _ {s : Settings} {A B : ℕ → Node} {n root es : ℕ} {R : ℕ → ℕ}
       clash r x y = omega arith
 
 -- an entry of a leaf's list exists, and is in no other leaf's
-pub held-in : (s : Settings) (A : ℕ → Node) (n root es : ℕ) (R x y o : ℕ → ℕ) → Links s A n root es R x y o → (k c : ℕ) → k < n → A k .leaf ≡ true → 0 < occurs c (A k .list) → (c < es) × (occurs c (A k .list) ≡ 1)
+pub held-in : (s : Settings) (A : ℕ → Node) (n root es : ℕ) (R x y o : ℕ → ℕ) → Links s A n root es R x y o → (k c : ℕ) → k < n → A k .leaf ≡ true
+    → 0 < occurs c (A k .list) → (c < es) × (occurs c (A k .list) ≡ 1)
 held-in s A n root es R x y o g k c h f q =
     let a : held (A k) c ≡ occurs c (A k .list) = held-yes (A k) c f in
     let b = sum-at (λ k. held (A k) c) k n h in
@@ -94,7 +73,8 @@ held-in s A n root es R x y o g k c h f q =
     let e = below-le c es in
     (below-lt c es (omega arith), omega arith)
 
-pub held-one : (s : Settings) (A : ℕ → Node) (n root es : ℕ) (R x y o : ℕ → ℕ) → Links s A n root es R x y o → (k l c : ℕ) → k < n → l < n → A k .leaf ≡ true → A l .leaf ≡ true → 0 < occurs c (A k .list) → 0 < occurs c (A l .list) → k ≡ l
+pub held-one : (s : Settings) (A : ℕ → Node) (n root es : ℕ) (R x y o : ℕ → ℕ) → Links s A n root es R x y o → (k l c : ℕ) → k < n → l < n → A k .leaf ≡ true
+    → A l .leaf ≡ true → 0 < occurs c (A k .list) → 0 < occurs c (A l .list) → k ≡ l
 held-one s A n root es R x y o g k l c hk hl fk fl qk ql = go (same? k l)
   where
     go : (k ≡ l) ⊎ (k ≢ l) → k ≡ l

@@ -56,7 +56,8 @@ over-sum g n [] h = sym (sum-none (λ c. 0 * g c) n (λ k q. omega arith))
 over-sum g n (x ∷ l) h =
     let a : over g l ≡ sumTo (λ c. occurs c l * g c) n = over-sum g n l (λ c o. h c (occurs-later c x l o)) in
     let b : sumTo (λ c. only (g x) x c) n ≡ g x = sum-only (g x) x n (h x (occurs-here x l)) in
-    let d : sumTo (λ c. occurs c (x ∷ l) * g c) n ≡ sumTo (λ c. only (g x) x c + occurs c l * g c) n = sum-same (λ c. only (g x) x c + occurs c l * g c) (λ c. occurs c (x ∷ l) * g c) n (λ c q. step c) in
+    let d : sumTo (λ c. occurs c (x ∷ l) * g c) n ≡ sumTo (λ c. only (g x) x c + occurs c l * g c) n =
+    sum-same (λ c. only (g x) x c + occurs c l * g c) (λ c. occurs c (x ∷ l) * g c) n (λ c q. step c) in
     let e = sum-plus (λ c. only (g x) x c) (λ c. occurs c l * g c) n in
     let r : g x + over g l ≡ sumTo (λ c. occurs c (x ∷ l) * g c) n = omega arith in
     r
@@ -92,22 +93,31 @@ module _ {A : ℕ → Node} {n root es : ℕ} {R : ℕ → ℕ} (g : Frame A n r
   inner-over v k l = go (leaf? (A k))
     where
       go : (A k .leaf ≡ true) ⊎ (A k .leaf ≡ false) → cond (A k .leaf) 0 (over v (A k .list)) ≡ sumTo (λ c. inner (A k) c * v c) n
-      go (inl f) = ap (λ b. cond b 0 (over v (A k .list))) f ∙ sym (sum-none (λ c. inner (A k) c * v c) n (λ c q. ap (λ z. z * v c) (inner-no (A k) c f) ∙ zero-mul (v c)))
-      go (inr f) = ap (λ b. cond b 0 (over v (A k .list))) f ∙ over-sum v n (A k .list) (λ c o. kid-below k c l f o) ∙ sum-same (λ c. inner (A k) c * v c) (λ c. occurs c (A k .list) * v c) n (λ c q. ap (λ z. z * v c) (sym (inner-yes (A k) c f)))
+      go (inl f) =
+          ap (λ b. cond b 0 (over v (A k .list))) f
+          ∙ sym (sum-none (λ c. inner (A k) c * v c) n (λ c q. ap (λ z. z * v c) (inner-no (A k) c f) ∙ zero-mul (v c)))
+      go (inr f) =
+          ap (λ b. cond b 0 (over v (A k .list))) f ∙ over-sum v n (A k .list) (λ c o. kid-below k c l f o)
+          ∙ sum-same (λ c. inner (A k) c * v c) (λ c. occurs c (A k .list) * v c) n (λ c q. ap (λ z. z * v c) (sym (inner-yes (A k) c f)))
 
   leaf-over : (v : ℕ → ℕ) (k : ℕ) → k < n → cond (A k .leaf) (over v (A k .list)) 0 ≡ sumTo (λ c. held (A k) c * v c) es
   leaf-over v k l = go (leaf? (A k))
     where
       go : (A k .leaf ≡ true) ⊎ (A k .leaf ≡ false) → cond (A k .leaf) (over v (A k .list)) 0 ≡ sumTo (λ c. held (A k) c * v c) es
-      go (inr f) = ap (λ b. cond b (over v (A k .list)) 0) f ∙ sym (sum-none (λ c. held (A k) c * v c) es (λ c q. ap (λ z. z * v c) (held-no (A k) c f) ∙ zero-mul (v c)))
-      go (inl f) = ap (λ b. cond b (over v (A k .list)) 0) f ∙ over-sum v es (A k .list) (λ c o. entry-below k c l f o) ∙ sum-same (λ c. held (A k) c * v c) (λ c. occurs c (A k .list) * v c) es (λ c q. ap (λ z. z * v c) (sym (held-yes (A k) c f)))
+      go (inr f) =
+          ap (λ b. cond b (over v (A k .list)) 0) f
+          ∙ sym (sum-none (λ c. held (A k) c * v c) es (λ c q. ap (λ z. z * v c) (held-no (A k) c f) ∙ zero-mul (v c)))
+      go (inl f) =
+          ap (λ b. cond b (over v (A k .list)) 0) f ∙ over-sum v es (A k .list) (λ c o. entry-below k c l f o)
+          ∙ sum-same (λ c. held (A k) c * v c) (λ c. occurs c (A k .list) * v c) es (λ c q. ap (λ z. z * v c) (sym (held-yes (A k) c f)))
 
   -- v over all leaves' lists is v over the entries
   pub leaves-sum : (v : ℕ → ℕ) → sumTo (λ k. cond (A k .leaf) (over v (A k .list)) 0) n ≡ sumTo v es
   leaves-sum v =
       sum-same (λ k. sumTo (λ c. held (A k) c * v c) es) (λ k. cond (A k .leaf) (over v (A k .list)) 0) n (λ k q. leaf-over v k q)
       ∙ sum-swap (λ k c. held (A k) c * v c) n es
-      ∙ sum-same v (λ c. sumTo (λ k. held (A k) c * v c) n) es (λ c q. sum-times (λ k. held (A k) c) (v c) n ∙ ap (λ z. z * v c) (g .entries-once c ∙ below-in c es q) ∙ one-mul (v c))
+      ∙ sum-same v (λ c. sumTo (λ k. held (A k) c * v c) n) es (λ c q. sum-times (λ k. held (A k) c) (v c) n
+      ∙ ap (λ z. z * v c) (g .entries-once c ∙ below-in c es q) ∙ one-mul (v c))
 
   -- v over all inner nodes' lists, and the root's, is v over the nodes
   pub inners-sum : (v : ℕ → ℕ) → v root + sumTo (λ k. cond (A k .leaf) 0 (over v (A k .list))) n ≡ sumTo v n
@@ -116,7 +126,8 @@ module _ {A : ℕ → Node} {n root es : ℕ} {R : ℕ → ℕ} (g : Frame A n r
       sum-same (λ k. sumTo (λ c. inner (A k) c * v c) n) (λ k. cond (A k .leaf) 0 (over v (A k .list))) n (λ k q. inner-over v k q)
       ∙ sum-swap (λ k c. inner (A k) c * v c) n n
       ∙ sum-same (λ c. sumTo (λ k. inner (A k) c) n * v c) (λ c. sumTo (λ k. inner (A k) c * v c) n) n (λ c q. sum-times (λ k. inner (A k) c) (v c) n) in
-      let b : sumTo (λ c. only (v root) root c + sumTo (λ k. inner (A k) c) n * v c) n ≡ sumTo v n = sum-same v (λ c. only (v root) root c + sumTo (λ k. inner (A k) c) n * v c) n (λ c q. each c q (same? c root)) in
+      let b : sumTo (λ c. only (v root) root c + sumTo (λ k. inner (A k) c) n * v c) n ≡ sumTo v n =
+      sum-same v (λ c. only (v root) root c + sumTo (λ k. inner (A k) c) n * v c) n (λ c q. each c q (same? c root)) in
       let d = sum-plus (λ c. only (v root) root c) (λ c. sumTo (λ k. inner (A k) c) n * v c) n in
       let e = sum-only (v root) root n (g .root-in) in
       omega arith
@@ -179,10 +190,14 @@ module _ {A : ℕ → Node} {n root es : ℕ} {R : ℕ → ℕ} (g : Frame A n r
   step-up h k l = go (same? (R k) (suc h)) (leaf? (A k))
     where
       lists : A k .leaf ≡ false → R k ≡ suc h → over (λ m. only (deep A f h m) h (R m)) (A k .list) ≡ over (deep A f h) (A k .list)
-      lists u e = over-same (λ m. only (deep A f h m) h (R m)) (deep A f h) (A k .list) (λ c o. only-at (deep A f h c) h (R c) (let q = g .kid k c l u o .1 in omega arith))
+      lists u e =
+          over-same (λ m. only (deep A f h m) h (R m)) (deep A f h) (A k .list)
+          (λ c o. only-at (deep A f h c) h (R c) (let q = g .kid k c l u o .1 in omega arith))
 
       none-of : A k .leaf ≡ false → R k ≢ suc h → over (λ m. only (deep A f h m) h (R m)) (A k .list) ≡ 0
-      none-of u e = over-same (λ m. only (deep A f h m) h (R m)) (λ _. 0) (A k .list) (λ c o. only-off (deep A f h c) h (R c) (λ z. e (g .kid k c l u o .1 ∙ ap suc z))) ∙ zeros (A k .list)
+      none-of u e =
+          over-same (λ m. only (deep A f h m) h (R m)) (λ _. 0) (A k .list) (λ c o. only-off (deep A f h c) h (R c) (λ z. e (g .kid k c l u o .1 ∙ ap suc z)))
+          ∙ zeros (A k .list)
         where
           zeros : (l : List ℕ) → over (λ _. 0) l ≡ 0
           zeros [] = unfold over in refl
@@ -192,33 +207,46 @@ module _ {A : ℕ → Node} {n root es : ℕ} {R : ℕ → ℕ} (g : Frame A n r
       high = by (same? (R k) (suc h)) (lt? h (R k))
         where
           by : (R k ≡ suc h) ⊎ (R k ≢ suc h) → (h < R k) ⊎ (R k ≤ h) → higher (f k) (suc h) (R k) + only (f k) (suc h) (R k) ≡ higher (f k) h (R k)
-          by (inl e) q = let a = higher-no (f k) (suc h) (R k) (omega arith) in let b = only-at (f k) (suc h) (R k) e in let c = higher-yes (f k) h (R k) (omega arith) in omega arith
-          by (inr e) (inl q) = let a = higher-yes (f k) (suc h) (R k) (omega arith) in let b = only-off (f k) (suc h) (R k) e in let c = higher-yes (f k) h (R k) q in omega arith
-          by (inr e) (inr q) = let a = higher-no (f k) (suc h) (R k) (omega arith) in let b = only-off (f k) (suc h) (R k) e in let c = higher-no (f k) h (R k) q in omega arith
-
-      Out : Type 0
-      Out = only (f k + cond (A k .leaf) 0 (over (deep A f h) (A k .list))) (suc h) (R k) + higher (f k) (suc h) (R k) ≡ higher (f k) h (R k) + cond (A k .leaf) 0 (over (λ m. only (deep A f h m) h (R m)) (A k .list))
+          by (inl e) q =
+              let a = higher-no (f k) (suc h) (R k) (omega arith) in
+              let b = only-at (f k) (suc h) (R k) e in
+              let c = higher-yes (f k) h (R k) (omega arith) in
+              omega arith
+          by (inr e) (inl q) =
+              let a = higher-yes (f k) (suc h) (R k) (omega arith) in
+              let b = only-off (f k) (suc h) (R k) e in
+              let c = higher-yes (f k) h (R k) q in
+              omega arith
+          by (inr e) (inr q) =
+              let a = higher-no (f k) (suc h) (R k) (omega arith) in
+              let b = only-off (f k) (suc h) (R k) e in
+              let c = higher-no (f k) h (R k) q in
+              omega arith
 
       go : (R k ≡ suc h) ⊎ (R k ≢ suc h) → (A k .leaf ≡ true) ⊎ (A k .leaf ≡ false)
-          → only (f k + cond (A k .leaf) 0 (over (deep A f h) (A k .list))) (suc h) (R k) + higher (f k) (suc h) (R k) ≡ higher (f k) h (R k) + cond (A k .leaf) 0 (over (λ m. only (deep A f h m) h (R m)) (A k .list))
+          → only (f k + cond (A k .leaf) 0 (over (deep A f h) (A k .list))) (suc h) (R k) + higher (f k) (suc h) (R k)
+          ≡ higher (f k) h (R k) + cond (A k .leaf) 0 (over (λ m. only (deep A f h m) h (R m)) (A k .list))
       go (inl e) (inl u) = let z = g .ground k l u in absurd (omega arith)
       go (inl e) (inr u) =
           let a = only-at (f k + cond (A k .leaf) 0 (over (deep A f h) (A k .list))) (suc h) (R k) e in
           let b = only-at (f k) (suc h) (R k) e in
           let c : cond (A k .leaf) 0 (over (deep A f h) (A k .list)) ≡ over (deep A f h) (A k .list) = ap (λ b. cond b 0 (over (deep A f h) (A k .list))) u in
-          let d : cond (A k .leaf) 0 (over (λ m. only (deep A f h m) h (R m)) (A k .list)) ≡ over (deep A f h) (A k .list) = ap (λ b. cond b 0 (over (λ m. only (deep A f h m) h (R m)) (A k .list))) u ∙ lists u e in
+          let d : cond (A k .leaf) 0 (over (λ m. only (deep A f h m) h (R m)) (A k .list)) ≡ over (deep A f h) (A k .list) =
+          ap (λ b. cond b 0 (over (λ m. only (deep A f h m) h (R m)) (A k .list))) u ∙ lists u e in
           let x = high in
           omega arith
       go (inr e) (inl u) =
           let a = only-off (f k + cond (A k .leaf) 0 (over (deep A f h) (A k .list))) (suc h) (R k) e in
           let b = only-off (f k) (suc h) (R k) e in
-          let d : cond (A k .leaf) 0 (over (λ m. only (deep A f h m) h (R m)) (A k .list)) ≡ 0 = ap (λ b. cond b 0 (over (λ m. only (deep A f h m) h (R m)) (A k .list))) u in
+          let d : cond (A k .leaf) 0 (over (λ m. only (deep A f h m) h (R m)) (A k .list)) ≡ 0 =
+          ap (λ b. cond b 0 (over (λ m. only (deep A f h m) h (R m)) (A k .list))) u in
           let x = high in
           omega arith
       go (inr e) (inr u) =
           let a = only-off (f k + cond (A k .leaf) 0 (over (deep A f h) (A k .list))) (suc h) (R k) e in
           let b = only-off (f k) (suc h) (R k) e in
-          let d : cond (A k .leaf) 0 (over (λ m. only (deep A f h m) h (R m)) (A k .list)) ≡ 0 = ap (λ b. cond b 0 (over (λ m. only (deep A f h m) h (R m)) (A k .list))) u ∙ none-of u e in
+          let d : cond (A k .leaf) 0 (over (λ m. only (deep A f h m) h (R m)) (A k .list)) ≡ 0 =
+          ap (λ b. cond b 0 (over (λ m. only (deep A f h m) h (R m)) (A k .list))) u ∙ none-of u e in
           let x = high in
           omega arith
 
@@ -264,11 +292,13 @@ module _ {A : ℕ → Node} {n root es : ℕ} {R : ℕ → ℕ} (g : Frame A n r
   deep-root =
       let a : sumTo (λ k. only (deep A f (R root) k) (R root) (R k) + higher (f k) (R root) (R k)) n ≡ sumTo f n = all-parts (R root) (omega arith) in
       let b : sumTo (λ k. only (deep A f (R root) k) (R root) (R k) + higher (f k) (R root) (R k)) n ≡ sumTo (λ k. only (deep A f (R root) root) root k) n =
-      sum-same (λ k. only (deep A f (R root) root) root k) (λ k. only (deep A f (R root) k) (R root) (R k) + higher (f k) (R root) (R k)) n (λ k q. each k q (same? k root)) in
+      sum-same (λ k. only (deep A f (R root) root) root k) (λ k. only (deep A f (R root) k) (R root) (R k) + higher (f k) (R root) (R k)) n
+      (λ k q. each k q (same? k root)) in
       let c = sum-only (deep A f (R root) root) root n (g .root-in) in
       omega arith
     where
-      each : (k : ℕ) → k < n → (k ≡ root) ⊎ (k ≢ root) → only (deep A f (R root) k) (R root) (R k) + higher (f k) (R root) (R k) ≡ only (deep A f (R root) root) root k
+      each : (k : ℕ) → k < n → (k ≡ root) ⊎ (k ≢ root) → only (deep A f (R root) k) (R root) (R k) + higher (f k) (R root) (R k)
+          ≡ only (deep A f (R root) root) root k
       each k q (inl e) =
           let a = only-at (deep A f (R root) k) (R root) (R k) (ap R e) in
           let b = higher-no (f k) (R root) (R k) (g .top k q) in

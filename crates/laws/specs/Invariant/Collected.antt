@@ -42,7 +42,8 @@ module _ {A : ℕ → Node} {n root es : ℕ} {R : ℕ → ℕ} (g : Frame A n r
           some-kid (k ∷ ks) z = (k, let p = occurs-cons k k ks in let q = is-same k k refl in omega arith)
       go (suc h) e z =
           ap (λ b. f m + cond b 0 (over (deep A f h) (A m .list))) u
-          ∙ ap (λ z. f m + z) (over-same (deep A f h) (λ c. deep A f (R c) c) (A m .list) (λ c o. let q = g .kid m c l u o .1 in let w : h ≡ R c = omega arith in ap (λ k. deep A f k c) w))
+          ∙ ap (λ z. f m + z) (over-same (deep A f h) (λ c. deep A f (R c) c) (A m .list) (λ c o. let q = g .kid m c l u o .1 in
+          let w : h ≡ R c = omega arith in ap (λ k. deep A f k c) w))
 
   pub under-root : (f : ℕ → ℕ) → under f root ≡ sumTo f n
   unfolding under
@@ -73,7 +74,8 @@ module _ (s : Settings) (t : Tree) {R : ℕ → ℕ} (g : Frame (nodeAt t) (leng
       go (inl u) = let a = U-leaf one m l u in omega arith
       go (inr u) = let a = U-inner one m l u in omega arith
 
-  pub collect-over : (v : ℕ → ℕ) (k : ℕ) (ns : List ℕ) → ((m : ℕ) → 0 < occurs m ns → m < length (t .nodes)) → over (U one) ns ≤ k → over v (collected t k ns) ≡ over (U (listing v)) ns
+  pub collect-over : (v : ℕ → ℕ) (k : ℕ) (ns : List ℕ) → ((m : ℕ) → 0 < occurs m ns → m < length (t .nodes)) → over (U one) ns ≤ k
+      → over v (collected t k ns) ≡ over (U (listing v)) ns
   unfolding collected over
   collect-over v zero [] h b = refl
   collect-over v zero (m ∷ ns) h b = let q = some-under m (h m (occurs-here m ns)) in absurd (omega arith)
@@ -88,7 +90,8 @@ module _ (s : Settings) (t : Tree) {R : ℕ → ℕ} (g : Frame (nodeAt t) (leng
 
       go : (l : Bool) → nodeAt t m .leaf ≡ l
           → ((ns : List ℕ) → ((m : ℕ) → 0 < occurs m ns → m < length (t .nodes)) → over (U one) ns ≤ k → over v (collected t k ns) ≡ over (U (listing v)) ns)
-          → over v (elim l [ true ↦ nodeAt t m .list ++ collected t k ns | false ↦ collected t k (nodeAt t m .list ++ ns) ]) ≡ U (listing v) m + over (U (listing v)) ns
+          → over v (elim l [ true ↦ nodeAt t m .list ++ collected t k ns | false ↦ collected t k (nodeAt t m .list ++ ns) ])
+          ≡ U (listing v) m + over (U (listing v)) ns
       go true e ih =
           let a = U-leaf one m here e in
           let c = U-leaf (listing v) m here e in

@@ -56,7 +56,8 @@ module _ {s : Settings} {A : ℕ → Node} {n root es : ℕ} {R x y o : ℕ → 
   height =
       let a = levels-many (suc (R root)) (omega arith) in
       let b = levels-sum R n (suc (R root)) in
-      let c : sumTo (λ k. below (R k) (suc (R root))) n ≤ sumTo (λ _. 1) n = sum-le (λ k. below (R k) (suc (R root))) (λ _. 1) n (λ k q. below-le (R k) (suc (R root))) in
+      let c : sumTo (λ k. below (R k) (suc (R root))) n ≤ sumTo (λ _. 1) n =
+      sum-le (λ k. below (R k) (suc (R root))) (λ _. 1) n (λ k q. below-le (R k) (suc (R root))) in
       let d = sum-ones n in
       omega arith
 
@@ -100,7 +101,8 @@ module _ {s : Settings} {A : ℕ → Node} {n root es : ℕ} {R x y o : ℕ → 
   leaves-few =
       let a = sum-le (λ k. is 0 (R k)) (λ k. sumTo (λ c. held (A k) c) es) n holds-one in
       let b = sum-swap (λ k c. held (A k) c) n es in
-      let c : sumTo (λ c. sumTo (λ k. held (A k) c) n) es ≡ sumTo (λ _. 1) es = sum-same (λ _. 1) (λ c. sumTo (λ k. held (A k) c) n) es (λ c q. g .entries-once c ∙ below-in c es q) in
+      let c : sumTo (λ c. sumTo (λ k. held (A k) c) n) es ≡ sumTo (λ _. 1) es =
+      sum-same (λ _. 1) (λ c. sumTo (λ k. held (A k) c) n) es (λ c q. g .entries-once c ∙ below-in c es q) in
       let d = sum-ones es in
       omega arith
 
@@ -124,6 +126,7 @@ triangle (suc m) (suc e) f h k =
 -- e entries: at most e(e+1)/2 nodes
 pub nodes-few : (s : Settings) (A : ℕ → Node) (n root es : ℕ) (R x y o : ℕ → ℕ) → Links s A n root es R x y o → 2 * n ≤ es * (es + 1)
 nodes-few s A n root es R x y o g =
-    let a : 2 * sumTo (λ r. rankCount R n r) (suc (R root)) ≤ es * (es + 1) = triangle (suc (R root)) es (λ r. rankCount R n r) (leaves-few g) (λ r. let q = g .grows r in omega arith) in
+    let a : 2 * sumTo (λ r. rankCount R n r) (suc (R root)) ≤ es * (es + 1) =
+    triangle (suc (R root)) es (λ r. rankCount R n r) (leaves-few g) (λ r. let q = g .grows r in omega arith) in
     let b = levels-all g in
     omega arith

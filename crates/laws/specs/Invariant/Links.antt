@@ -103,8 +103,13 @@ module _ {s : Settings} {A : ℕ → Node} {n root es : ℕ} {R x y o : ℕ → 
   parent-lists c p l z e =
       let r = lister c l (λ q. Option·none-ne-some p (sym (g .root-top) ∙ ap (λ k. A k .parent) (sym q) ∙ e)) z in
       let k = g .kid (r .0) c (r .1) (r .2) (let q = r .3 in omega arith) in
-      let ip : r .0 ≡ p = Option·some-injective (r .0) p (sym (k .0) ∙ e) in
-      (subst (λ j. j < n) ip (r .1), subst (λ j. A j .leaf ≡ false) ip (r .2), subst (λ j. occurs c (A j .list) ≡ 1) ip (r .3), subst (λ j. R j ≡ suc (R c)) ip (k .1))
+      let ip : r .0 ≡ p = Option·some-injective (r .0) p (sym (k .0) ∙ e) in (
+        subst (λ j. j < n) ip (r .1),
+        subst (λ j. A j .leaf ≡ false) ip (r .2),
+        subst (λ j. occurs c (A j .list) ≡ 1) ip (r .3),
+        subst (λ j. R j ≡ suc (R c))
+            ip (k .1),
+      )
 
   pub no-parent : (c : ℕ) → c < n → o c ≡ 0 → A c .parent ≡ none → c ≡ root
   no-parent c l z e = go (same? c root)
@@ -148,7 +153,8 @@ put-off R n v k h = go (eqb k n) refl
 pub rank-put : (R : ℕ → ℕ) (n v r : ℕ) → rankCount (put R n v) (suc n) r ≡ rankCount R n r + is r v
 unfolding rankCount sumTo
 rank-put R n v r =
-    let a : sumTo (λ k. is r (put R n v k)) n ≡ sumTo (λ k. is r (R k)) n = sum-same (λ k. is r (R k)) (λ k. is r (put R n v k)) n (λ k l. ap (λ q. is r q) (put-off R n v k (λ e. differ k l e))) in
+    let a : sumTo (λ k. is r (put R n v k)) n ≡ sumTo (λ k. is r (R k)) n =
+    sum-same (λ k. is r (R k)) (λ k. is r (put R n v k)) n (λ k l. ap (λ q. is r q) (put-off R n v k (λ e. differ k l e))) in
     let b : is r (put R n v n) ≡ is r v = ap (λ q. is r q) (put-at R n v) in
     omega arith
   where

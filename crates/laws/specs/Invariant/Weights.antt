@@ -35,9 +35,11 @@ exact-count e n h = ap (toUnsigned 64) (h .0) ∙ whole-back n (h .1)
 pub exact-is : (e : Summary) (n : ℕ) → Exactly e n → IsExact e
 exact-is e n h = subst (Exactly e) (sym (exact-count e n h)) h
 
+-- weights that are whole numbers add up exactly, to 2^53
 pub merge-weight : (s : Settings) (a b : Summary) (m n : ℕ) → Exactly a m → Exactly b n → m + n ≤ most → Exactly (merge s a b) (m + n)
 merge-weight s a b m n ha hb h = (merged-weight (s .feature) (s .dim) a b m n (ha .1) (hb .1) (ha .0) (hb .0), h)
 
+-- a row weighs one
 pub push-weigh : (s : Settings) (x : List Float) (a : Summary) (m : ℕ) → Exactly a m → m < most → Exactly (push s x a) (suc m)
 push-weigh s x a m h l = let e : m + 1 ≡ suc m = omega arith in (pushed-weight (s .feature) (s .dim) a x m (h .1) (h .0) ∙ ap whole e, l)
 
@@ -61,7 +63,8 @@ module _ (s : Settings) (t : Tree) (l : Bool) where
       let e : m + n + over (weightOf t l) ks ≡ m + (n + over (weightOf t l) ks) = omega arith in
       subst (Exactly (foldl (λ a c. merge s a (child t l c)) (merge s a (child t l c)) ks)) e r
 
-  pub gather-exact : (ks : List ℕ) → ((c : ℕ) → 0 < occurs c ks → IsExact (child t l c)) → over (weightOf t l) ks ≤ most → Exactly (gathered s t l ks) (over (weightOf t l) ks)
+  pub gather-exact : (ks : List ℕ) → ((c : ℕ) → 0 < occurs c ks → IsExact (child t l c)) → over (weightOf t l) ks ≤ most
+      → Exactly (gathered s t l ks) (over (weightOf t l) ks)
   unfolding gathered
   gather-exact ks hc h =
       let e : 0 + over (weightOf t l) ks ≡ over (weightOf t l) ks = omega arith in

@@ -33,6 +33,7 @@ path-list : (F : Summary → Summary) (l : ℕ) (t : Tree) (k : ℕ) → nodeAt 
 unfolding alongPath withNodes nodeAt summed
 path-list F l t k = climb-keeps F (λ m. m .list) (λ m. refl) (length (t .nodes)) (some l) (t .nodes) k
 
+-- a row in alters one entry, within the threshold, or adds one
 pub grown-one : (s : Settings) (x : List Float) (t : Tree) → OneEntry s x t (grown s x t)
 unfolding grown grownAt settled placed
 grown-one s x t = go (searched (λ e. distTo s (entryAt u e) x) (nodeAt u l .list)) found
@@ -55,7 +56,8 @@ grown-one s x t = go (searched (λ e. distTo s (entryAt u e) x) (nodeAt u l .lis
     go : (r : Nearest) → winner s x t ≡ r → OneEntry s x t (splitUp s (length ((absorbedOrBegun s x l r u) .nodes)) l (absorbedOrBegun s x l r u))
     go Nothing f =
         began (no-winner f)
-        (splitUp-entries s (length ((absorbedOrBegun s x l Nothing u) .nodes)) l (absorbedOrBegun s x l Nothing u) ∙ (unfold absorbedOrBegun begun alongPath withEntries withNodes in refl))
+        (splitUp-entries s (length ((absorbedOrBegun s x l Nothing u) .nodes)) l (absorbedOrBegun s x l Nothing u)
+        ∙ (unfold absorbedOrBegun begun alongPath withEntries withNodes in refl))
     go (Entry e) f = by (absorbs s x e u) refl
       where
         v : Tree
@@ -65,9 +67,12 @@ grown-one s x t = go (searched (λ e. distTo s (entryAt u e) x) (nodeAt u l .lis
         ends = splitUp-entries s (length (v .nodes)) l v
 
         kept : (b : Bool) → absorbs s x e u ≡ b → v .entries ≡ cond b (changeAt (push s x) e (t .entries)) (snoc (t .entries) (push s x blank))
-        kept b q = unfold absorbedOrBegun absorbed begun alongPath withEntries withNodes in (ap (λ b. (cond b (absorbed s x e u) (begun l (push s x blank) u)) .entries) q ∙ sides b)
+        kept b q =
+            unfold absorbedOrBegun absorbed begun alongPath withEntries withNodes in
+            (ap (λ b. (cond b (absorbed s x e u) (begun l (push s x blank) u)) .entries) q ∙ sides b)
           where
-            sides : (b : Bool) → (cond b (absorbed s x e u) (begun l (push s x blank) u)) .entries ≡ cond b (changeAt (push s x) e (t .entries)) (snoc (t .entries) (push s x blank))
+            sides : (b : Bool) → (cond b (absorbed s x e u) (begun l (push s x blank) u)) .entries
+                ≡ cond b (changeAt (push s x) e (t .entries)) (snoc (t .entries) (push s x blank))
             sides true = unfold absorbed alongPath withEntries withNodes in refl
             sides false = unfold begun alongPath withEntries withNodes in refl
 

@@ -57,7 +57,8 @@ abbrev pub Spared : (ℕ → Type 0) → ℕ → Tree → Tree → Type 0
 Spared P n t u = (q : ℕ) → q < n → (P q → ⊥) → Same P n t u q
 
 as-before : (P : ℕ → Type 0) (n : ℕ) (t u : Tree) (q : ℕ) → nodeAt u q ≡ nodeAt t q → Same P n t u q
-as-before P n t u q e = record { summary = ap (λ m. m .summary) e; list = ap (λ m. m .list) e; leaf = ap (λ m. m .leaf) e; parent = inl (ap (λ m. m .parent) e) }
+as-before P n t u q e =
+    record { summary = ap (λ m. m .summary) e; list = ap (λ m. m .list) e; leaf = ap (λ m. m .leaf) e; parent = inl (ap (λ m. m .parent) e) }
 
 kept-then : (P : ℕ → Type 0) (n : ℕ) (t u v : Tree) → Spared P n t u → Spared P n u v → Spared P n t v
 kept-then P n t u v a b q l h =
@@ -65,7 +66,8 @@ kept-then P n t u v a b q l h =
     let y = b q l h in
     record { summary = y .summary ∙ x .summary; list = y .list ∙ x .list; leaf = y .leaf ∙ x .leaf; parent = go (x .parent) (y .parent) }
   where
-    go : (nodeAt u q .parent ≡ nodeAt t q .parent) ⊎ Moved P n t u q → (nodeAt v q .parent ≡ nodeAt u q .parent) ⊎ Moved P n u v q → (nodeAt v q .parent ≡ nodeAt t q .parent) ⊎ Moved P n t v q
+    go : (nodeAt u q .parent ≡ nodeAt t q .parent) ⊎ Moved P n t u q → (nodeAt v q .parent ≡ nodeAt u q .parent) ⊎ Moved P n u v q
+        → (nodeAt v q .parent ≡ nodeAt t q .parent) ⊎ Moved P n t v q
     go (inl x) (inl y) = inl (y ∙ x)
     go (inr x) (inl y) = inr (record { from = x .from; was = x .was; on = x .on; to = x .to; new = x .new; is = y ∙ x .is })
     go (inl x) (inr y) = inr (record { from = y .from; was = sym x ∙ y .was; on = y .on; to = y .to; new = y .new; is = y .is })
@@ -75,16 +77,19 @@ kept-then P n t u v a b q l h =
 abbrev pub Upward : (ℕ → Type 0) → Tree → Type 0
 Upward P t = (m p : ℕ) → m < length (t .nodes) → P m → nodeAt t m .parent ≡ some p → P p
 
-module _ {s : Settings} (P : ℕ → Type 0) (n : ℕ) (new : (k : ℕ) → n ≤ k → P k) {t : Tree} {R : ℕ → ℕ} (i : ℕ) {total : ℕ} (g : Looking s t R i total) (l : i < length (t .nodes)) (c : Caps s) (many : 1 < length (nodeAt t i .list)) (big : n ≤ length (t .nodes)) (pi : P i) (up : Upward P t) where
+module _ {s : Settings} (P : ℕ → Type 0) (n : ℕ) (new : (k : ℕ) → n ≤ k → P k) {t : Tree} {R : ℕ → ℕ} (i : ℕ) {total : ℕ} (g : Looking s t R i total)
+    (l : i < length (t .nodes)) (c : Caps s) (many : 1 < length (nodeAt t i .list)) (big : n ≤ length (t .nodes)) (pi : P i) (up : Upward P t) where
   parts : Parts (nodeAt t) (nodeAt (split s i t)) i (length (t .nodes)) (stayList s t i) (moveList s t i)
   parts = parts-of i g l c many
 
   -- moved, from i to the new node, or not
-  told : (k : ℕ) → k < length (t .nodes) → (nodeAt (split s i t) k .parent ≡ nodeAt t k .parent) ⊎ ((nodeAt (split s i t) k .parent ≡ some (length (t .nodes))) × (nodeAt t k .parent ≡ some i))
+  told : (k : ℕ) → k < length (t .nodes) → (nodeAt (split s i t) k .parent ≡ nodeAt t k .parent)
+      ⊎ ((nodeAt (split s i t) k .parent ≡ some (length (t .nodes))) × (nodeAt t k .parent ≡ some i))
   told k h = go (leaf? (nodeAt t i)) (same? (occurs k (moveList s t i)) 0)
     where
       go : (nodeAt t i .leaf ≡ true) ⊎ (nodeAt t i .leaf ≡ false) → (occurs k (moveList s t i) ≡ 0) ⊎ (occurs k (moveList s t i) ≢ 0)
-          → (nodeAt (split s i t) k .parent ≡ nodeAt t k .parent) ⊎ ((nodeAt (split s i t) k .parent ≡ some (length (t .nodes))) × (nodeAt t k .parent ≡ some i))
+          → (nodeAt (split s i t) k .parent ≡ nodeAt t k .parent) ⊎ ((nodeAt (split s i t) k .parent ≡ some (length (t .nodes)))
+          × (nodeAt t k .parent ≡ some i))
       go (inl f) z = inl (parts .parent-kept k (lt-ne k (length (t .nodes)) h) (inl f))
       go (inr f) (inl z) = inl (parts .parent-kept k (lt-ne k (length (t .nodes)) h) (inr z))
       go (inr f) (inr z) = inr (parts .parent-moved k h f (omega arith), g .links .kid i k l f (in-move i g l c many k (omega arith)) .0)
@@ -95,7 +100,8 @@ module _ {s : Settings} (P : ℕ → Type 0) (n : ℕ) (new : (k : ℕ) → n �
       let qn : q ≢ length (t .nodes) = lt-ne q (length (t .nodes)) (omega arith) in
       record { summary = split-sum-o s t i l q qi qn; list = parts .kids-o q qi qn; leaf = parts .leaf-o q qn; parent = go (told q (omega arith)) }
     where
-      go : (nodeAt (split s i t) q .parent ≡ nodeAt t q .parent) ⊎ ((nodeAt (split s i t) q .parent ≡ some (length (t .nodes))) × (nodeAt t q .parent ≡ some i)) → (nodeAt (split s i t) q .parent ≡ nodeAt t q .parent) ⊎ Moved P n t (split s i t) q
+      go : (nodeAt (split s i t) q .parent ≡ nodeAt t q .parent) ⊎ ((nodeAt (split s i t) q .parent ≡ some (length (t .nodes)))
+          × (nodeAt t q .parent ≡ some i)) → (nodeAt (split s i t) q .parent ≡ nodeAt t q .parent) ⊎ Moved P n t (split s i t) q
       go (inl e) = inl e
       go (inr e) = inr (record { from = i; was = e .1; on = pi; to = length (t .nodes); new = big; is = e .0 })
 
@@ -112,7 +118,8 @@ module _ {s : Settings} (P : ℕ → Type 0) (n : ℕ) (new : (k : ℕ) → n �
           old : m < length (t .nodes) → P p
           old hm = by (told m hm)
             where
-              by : (nodeAt (split s i t) m .parent ≡ nodeAt t m .parent) ⊎ ((nodeAt (split s i t) m .parent ≡ some (length (t .nodes))) × (nodeAt t m .parent ≡ some i)) → P p
+              by : (nodeAt (split s i t) m .parent ≡ nodeAt t m .parent) ⊎ ((nodeAt (split s i t) m .parent ≡ some (length (t .nodes)))
+                  × (nodeAt t m .parent ≡ some i)) → P p
               by (inl y) = up m p hm pm (sym y ∙ e)
               by (inr y) = new p (subst (λ z. n ≤ z) (Option·some-injective (length (t .nodes)) p (sym (y .0) ∙ e)) big)
 
@@ -129,7 +136,12 @@ module _ {s : Settings} (P : ℕ → Type 0) (n : ℕ) (new : (k : ℕ) → n �
 
     pub next-kept : Spared P n t (extended p (length (t .nodes)) (split s i t))
     next-kept = kept-then P n t (split s i t) (extended p (length (t .nodes)) (split s i t)) split-kept
-        (λ q h off. record { summary = extend-sum (split s i t) p (length (t .nodes)) q; list = add .kids-o q (λ e. off (subst P (sym e) next-p)); leaf = add .leaf-o q; parent = inl (add .parent-o q) })
+        (λ q h off. record {
+          summary = extend-sum (split s i t) p (length (t .nodes)) q;
+          list = add .kids-o q (λ e. off (subst P (sym e) next-p));
+          leaf = add .leaf-o q;
+          parent = inl (add .parent-o q);
+        })
 
     pub next-upward : Upward P (extended p (length (t .nodes)) (split s i t))
     next-upward m p′ h pm e = split-upward m p′ (subst (λ z. m < z) (extend-length p (length (t .nodes)) (split s i t)) h) pm (sym (add .parent-o m) ∙ e)
@@ -156,16 +168,24 @@ module _ {s : Settings} (P : ℕ → Type 0) (n : ℕ) (new : (k : ℕ) → n �
       go : Spared P n (split s i t) (crowned s i (length (t .nodes)) (split s i t))
       go q h off =
           let d : q ≢ length ((split s i t) .nodes) = lt-ne q (length ((split s i t) .nodes)) (let w = len in omega arith) in
-          record { summary = crowned-sum s (split s i t) i (length (t .nodes)) li lj q d; list = cr .kids-o q d; leaf = cr .leaf-o q d; parent = inl (cr .parent-o q d (λ e. off (subst P (sym e) pi)) (lt-ne q (length (t .nodes)) (omega arith))) }
+          record {
+            summary = crowned-sum s (split s i t) i (length (t .nodes)) li lj q d;
+            list = cr .kids-o q d;
+            leaf = cr .leaf-o q d;
+            parent = inl (cr .parent-o q d (λ e. off (subst P (sym e) pi)) (lt-ne q (length (t .nodes)) (omega arith)));
+          }
 
-pub splits-kept : (s : Settings) (P : ℕ → Type 0) (n : ℕ) → ((k : ℕ) → n ≤ k → P k) → (k i : ℕ) (t : Tree) (R : ℕ → ℕ) (total : ℕ) → Caps s → Looking s t R i total → i < length (t .nodes)
+-- all splits from a node of P upward leave alone what is not in P
+pub splits-kept : (s : Settings) (P : ℕ → Type 0) (n : ℕ) → ((k : ℕ) → n ≤ k → P k) → (k i : ℕ) (t : Tree) (R : ℕ → ℕ) (total : ℕ) → Caps s
+    → Looking s t R i total → i < length (t .nodes)
     → n ≤ length (t .nodes) → P i → Upward P t → Spared P n t (splitUp s k i t)
 unfolding splitUp splitIf splitNext fitting
 splits-kept s P n new zero i t R total c g l big pi up = λ q h off. as-before P n t t q refl
 splits-kept s P n new (suc k) i t R total c g l big pi up = go (fitting s t i) refl (λ p u Q h q b pp w. splits-kept s P n new k p u Q total c h q b pp w)
   where
     next : (o : Option ℕ) → nodeAt t i .parent ≡ o → 1 < length (nodeAt t i .list)
-        → ((p : ℕ) (u : Tree) (Q : ℕ → ℕ) → Looking s u Q p total → p < length (u .nodes) → n ≤ length (u .nodes) → P p → Upward P u → Spared P n u (splitUp s k p u))
+        → ((p : ℕ) (u : Tree) (Q : ℕ → ℕ) → Looking s u Q p total → p < length (u .nodes) → n ≤ length (u .nodes) → P p → Upward P u
+        → Spared P n u (splitUp s k p u))
         → Spared P n t (splitNext s (λ p u. splitUp s k p u) i (length (t .nodes)) o (split s i t))
     next none e m ih = crown-kept P n new i g l c m big pi up
     next (some p) e m ih =
@@ -175,21 +195,26 @@ splits-kept s P n new (suc k) i t R total c g l big pi up = go (fitting s t i) r
         (next-big P n new i g l c m big pi up p e) (next-p P n new i g l c m big pi up p e) (next-upward P n new i g l c m big pi up p e))
 
     go : (b : Bool) → fitting s t i ≡ b
-        → ((p : ℕ) (u : Tree) (Q : ℕ → ℕ) → Looking s u Q p total → p < length (u .nodes) → n ≤ length (u .nodes) → P p → Upward P u → Spared P n u (splitUp s k p u))
+        → ((p : ℕ) (u : Tree) (Q : ℕ → ℕ) → Looking s u Q p total → p < length (u .nodes) → n ≤ length (u .nodes) → P p → Upward P u
+        → Spared P n u (splitUp s k p u))
         → Spared P n t (splitIf s (λ p u. splitUp s k p u) i b t)
     go true e ih = λ q h off. as-before P n t t q refl
-    go false e ih = next (nodeAt t i .parent) refl (let h = nleb→lt (length (nodeAt t i .list)) (cap s (nodeAt t i .leaf)) (subst (λ b. T (not b)) (sym e) tt) in let q = cap-some s (nodeAt t i .leaf) c in omega arith) ih
+    go false e ih =
+        next (nodeAt t i .parent) refl (let h = nleb→lt (length (nodeAt t i .list)) (cap s (nodeAt t i .leaf)) (subst (λ b. T (not b)) (sym e) tt) in
+        let q = cap-some s (nodeAt t i .leaf) c in omega arith) ih
 
 -- ---- the row's way up, and the leaf
 
-climb-kept : (P : ℕ → Type 0) (F : Summary → Summary) (k m : ℕ) (ns : List Node) → P m → ((m p : ℕ) → m < length ns → P m → getD ns m blankNode .parent ≡ some p → P p)
+climb-kept : (P : ℕ → Type 0) (F : Summary → Summary) (k m : ℕ) (ns : List Node) → P m
+    → ((m p : ℕ) → m < length ns → P m → getD ns m blankNode .parent ≡ some p → P p)
     → (q : ℕ) → (P q → ⊥) → getD (climbed F k (some m) ns) q blankNode ≡ getD ns q blankNode
 unfolding climbed blankNode summed
 climb-kept P F zero m ns pm up q off = refl
 climb-kept P F (suc k) m ns pm up q off = go (getD ns m blankNode .parent) refl (λ p pp. climb-kept P F k p (changeAt (summed F) m ns) pp up′ q off)
   where
     up′ : (a p : ℕ) → a < length (changeAt (summed F) m ns) → P a → getD (changeAt (summed F) m ns) a blankNode .parent ≡ some p → P p
-    up′ a p h pa e = up a p (subst (λ z. a < z) (length-change (summed F) m ns) h) pa (sym (change-keeps (λ n. n .parent) (summed F) m a blankNode ns (λ n. refl)) ∙ e)
+    up′ a p h pa e =
+        up a p (subst (λ z. a < z) (length-change (summed F) m ns) h) pa (sym (change-keeps (λ n. n .parent) (summed F) m a blankNode ns (λ n. refl)) ∙ e)
 
     same : getD (changeAt (summed F) m ns) q blankNode ≡ getD ns q blankNode
     same = change-off (summed F) m q blankNode ns (λ e. off (subst P (sym e) pm))
@@ -217,12 +242,16 @@ climb-kept P F (suc k) m ns pm up q off = go (getD ns m blankNode .parent) refl 
 -- joining alters the leaf's list at most
 join-kept : (s : Settings) (P : ℕ → Type 0) (n : ℕ) (x : List Float) (l : ℕ) (r : Nearest) (t : Tree) → P l → Spared P n t (absorbedOrBegun s x l r t)
 unfolding absorbedOrBegun begun absorbed withEntries withNodes nodeAt
-join-kept s P n x l Nothing t pl = (λ q h off. as-before P n t (begun l (push s x blank) t) q (change-off (adding (length (t .entries))) l q blankNode (t .nodes) (λ e. off (subst P (sym e) pl))))
+join-kept s P n x l Nothing t pl =
+    (λ q h off. as-before P n t (begun l (push s x blank) t) q (change-off (adding (length (t .entries))) l q blankNode (t .nodes)
+    (λ e. off (subst P (sym e) pl))))
 join-kept s P n x l (Entry e) t pl = go (absorbs s x e t)
   where
     go : (b : Bool) → Spared P n t (cond b (absorbed s x e t) (begun l (push s x blank) t))
     go true = λ q h off. as-before P n t (absorbed s x e t) q refl
-    go false = λ q h off. as-before P n t (begun l (push s x blank) t) q (change-off (adding (length (t .entries))) l q blankNode (t .nodes) (λ e. off (subst P (sym e) pl)))
+    go false =
+        λ q h off. as-before P n t (begun l (push s x blank) t) q (change-off (adding (length (t .entries))) l q blankNode (t .nodes)
+        (λ e. off (subst P (sym e) pl)))
 
 join-parent : (s : Settings) (x : List Float) (l : ℕ) (r : Nearest) (t : Tree) (k : ℕ) → nodeAt (absorbedOrBegun s x l r t) k .parent ≡ nodeAt t k .parent
 unfolding absorbedOrBegun begun absorbed withEntries withNodes nodeAt adding listing
@@ -258,11 +287,13 @@ grown-kept s x t R old c g n b P new pl up =
     let a : Spared P (length (t .nodes)) t u = λ q h off. as-before P (length (t .nodes)) t u q (path-same l F pl q off) in
     let d : Spared P (length (t .nodes)) u v = join-kept s P (length (t .nodes)) x l r u pl in
     let e : Upward P v = λ m p h pm z. up m p (subst (λ y. m < y) lv h) pm (sym (join-parent s x l r u m ∙ path-parent l F m) ∙ z) in
-    let f : Spared P (length (t .nodes)) v (splitUp s (length (v .nodes)) l v) = splits-kept s P (length (t .nodes)) new (length (v .nodes)) l v R (old + 1) c (p .looking) (p .here) (omega arith) pl e in
+    let f : Spared P (length (t .nodes)) v (splitUp s (length (v .nodes)) l v) =
+    splits-kept s P (length (t .nodes)) new (length (v .nodes)) l v R (old + 1) c (p .looking) (p .here) (omega arith) pl e in
     kept-then P (length (t .nodes)) t u (splitUp s (length (v .nodes)) l v) a (kept-then P (length (t .nodes)) u v (splitUp s (length (v .nodes)) l v) d f)
   where
     path-same : (l : ℕ) (F : Summary → Summary) → P l → (q : ℕ) → (P q → ⊥) → nodeAt (alongPath F l t) q ≡ nodeAt t q
-    path-same l F pl q off = unfold alongPath withNodes nodeAt in climb-kept P F (length (t .nodes)) l (t .nodes) pl (λ m p h pm e. up m p h pm (unfold nodeAt in e)) q off
+    path-same l F pl q off =
+        unfold alongPath withNodes nodeAt in climb-kept P F (length (t .nodes)) l (t .nodes) pl (λ m p h pm e. up m p h pm (unfold nodeAt in e)) q off
 
     path-parent : (l : ℕ) (F : Summary → Summary) (m : ℕ) → nodeAt (alongPath F l t) m .parent ≡ nodeAt t m .parent
     path-parent l F m = unfold alongPath withNodes nodeAt summed in climb-keeps F (λ m. m .parent) (λ m. refl) (length (t .nodes)) (some l) (t .nodes) m

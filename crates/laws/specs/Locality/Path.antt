@@ -38,12 +38,16 @@ way-none t (suc k) m = refl
 
 -- whoever is on the way has its parent on it: the node count is steps enough
 module _ {s : Settings} (t : Tree) {R : ℕ → ℕ} (g : Links s (nodeAt t) (length (t .nodes)) (t .root) (length (t .entries)) R nil nil nil) where
-  way-parent : (k i m p : ℕ) → i < length (t .nodes) → R (t .root) < R i + k → 0 < occurs m (wayUp t k (some i)) → nodeAt t m .parent ≡ some p → 0 < occurs p (wayUp t k (some i))
+  way-parent : (k i m p : ℕ) → i < length (t .nodes) → R (t .root) < R i + k → 0 < occurs m (wayUp t k (some i)) → nodeAt t m .parent ≡ some p
+      → 0 < occurs p (wayUp t k (some i))
   unfolding wayUp
   way-parent zero i m p l h o e = let z : occurs m [] ≡ 0 = unfold occurs in refl in absurd (omega arith)
-  way-parent (suc k) i m p l h o e = occurs-later p i (wayUp t k (nodeAt t i .parent)) (go (same? m i) (nodeAt t i .parent) refl (λ q a b c. way-parent k q m p a b c e))
+  way-parent (suc k) i m p l h o e =
+      occurs-later p i (wayUp t k (nodeAt t i .parent)) (go (same? m i) (nodeAt t i .parent) refl (λ q a b c. way-parent k q m p a b c e))
     where
-      go : (m ≡ i) ⊎ (m ≢ i) → (o : Option ℕ) → nodeAt t i .parent ≡ o → ((q : ℕ) → q < length (t .nodes) → R (t .root) < R q + k → 0 < occurs m (wayUp t k (some q)) → 0 < occurs p (wayUp t k (some q))) → 0 < occurs p (wayUp t k o)
+      go : (m ≡ i) ⊎ (m ≢ i) → (o : Option ℕ) → nodeAt t i .parent ≡ o
+          → ((q : ℕ) → q < length (t .nodes) → R (t .root) < R q + k → 0 < occurs m (wayUp t k (some q)) → 0 < occurs p (wayUp t k (some q)))
+          → 0 < occurs p (wayUp t k o)
       go (inl z) none f ih = absurd (Option·none-ne-some p (sym f ∙ ap (λ y. nodeAt t y .parent) (sym z) ∙ e))
       go (inl z) (some q) f ih =
           let r = parent-lists g i q l refl f in

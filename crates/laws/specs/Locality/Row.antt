@@ -49,14 +49,16 @@ module _ (s : Settings) (x : List Float) (t : Tree) where
   abbrev Near : ℕ → Type 0
   Near q = OnPath s x t q ⊎ (length (t .nodes) ≤ q)
 
-  settled-node : {R : ℕ → ℕ} {rows : ℕ} → Settled s t R rows → (u : Tree) (q : ℕ) → q < length (t .nodes) → Same Near (length (t .nodes)) t u q → Same (OnPath s x t) (length (t .nodes)) t u q
+  settled-node : {R : ℕ → ℕ} {rows : ℕ} → Settled s t R rows → (u : Tree) (q : ℕ) → q < length (t .nodes) → Same Near (length (t .nodes)) t u q
+      → Same (OnPath s x t) (length (t .nodes)) t u q
   settled-node {R} g u q l e = record { summary = e .summary; list = e .list; leaf = e .leaf; parent = go (e .parent) }
     where
       old : (p : ℕ) → nodeAt t q .parent ≡ some p → Near p → OnPath s x t p
       old p f (inl o) = o
       old p f (inr n) = let r = parent-lists (g .links) q p l refl f .0 in absurd (omega arith)
 
-      go : (nodeAt u q .parent ≡ nodeAt t q .parent) ⊎ Moved Near (length (t .nodes)) t u q → (nodeAt u q .parent ≡ nodeAt t q .parent) ⊎ Moved (OnPath s x t) (length (t .nodes)) t u q
+      go : (nodeAt u q .parent ≡ nodeAt t q .parent) ⊎ Moved Near (length (t .nodes)) t u q
+          → (nodeAt u q .parent ≡ nodeAt t q .parent) ⊎ Moved (OnPath s x t) (length (t .nodes)) t u q
       go (inl f) = inl f
       go (inr m) = inr (record { from = m .from; was = m .was; on = old (m .from) (m .was) (m .on); to = m .to; new = m .new; is = m .is })
 

@@ -30,7 +30,8 @@ unfolding rowsAmong over among
 rows-over l [] h = refl
 rows-over l (c ∷ a) h = go (ltb 0 (occurs c l)) (ltb→lt 0 (occurs c l)) (nltb→le 0 (occurs c l)) (rows-over l a h) (h c)
   where
-    go : (b : Bool) → (T b → 0 < occurs c l) → (T (not b) → occurs c l ≤ 0) → rowsAmong l a ≡ over (λ c. occurs c l) a → occurs c l ≤ 1 → cond b (suc (rowsAmong l a)) (rowsAmong l a) ≡ occurs c l + over (λ c. occurs c l) a
+    go : (b : Bool) → (T b → 0 < occurs c l) → (T (not b) → occurs c l ≤ 0) → rowsAmong l a ≡ over (λ c. occurs c l) a → occurs c l ≤ 1
+        → cond b (suc (rowsAmong l a)) (rowsAmong l a) ≡ occurs c l + over (λ c. occurs c l) a
     go true f g r q = let z = f tt in omega arith
     go false f g r q = let z = g tt in omega arith
 
@@ -41,7 +42,8 @@ over-swap [] a =
 over-swap (x ∷ l) a =
     let z : over (λ c. occurs c a) (x ∷ l) ≡ occurs x a + over (λ c. occurs c a) l = unfold over in refl in
     let h = over-swap l a in
-    let p : over (λ c. occurs c (x ∷ l)) a ≡ over (λ c. is c x + occurs c l) a = over-same (λ c. occurs c (x ∷ l)) (λ c. is c x + occurs c l) a (λ c o. occurs-cons c x l) in
+    let p : over (λ c. occurs c (x ∷ l)) a ≡ over (λ c. is c x + occurs c l) a =
+    over-same (λ c. occurs c (x ∷ l)) (λ c. is c x + occurs c l) a (λ c o. occurs-cons c x l) in
     let q = over-plus (λ c. is c x) (λ c. occurs c l) a in
     let r : over (λ c. is c x) a ≡ over (is x) a = over-same (λ c. is c x) (is x) a (λ c o. is-sym c x) in
     let e = occurs-over x a in
@@ -71,7 +73,8 @@ module _ (s : Settings) (t : Tree) (total : ℕ) (a : List ℕ) (w : Whole s t t
       beneath k h =
           beneath-weighs (w .1) k h ∙ entries-total t (collected t (length (t .nodes)) (k ∷ []))
           ∙ over-same (entryWeight t) (λ c. occurs c a) (collected t (length (t .nodes)) (k ∷ [])) (λ c q. o c)
-          ∙ over-swap (collected t (length (t .nodes)) (k ∷ [])) a ∙ sym (rows-over (collected t (length (t .nodes)) (k ∷ [])) a (λ c. beneath-once (w .1) k c h))
+          ∙ over-swap (collected t (length (t .nodes)) (k ∷ [])) a
+          ∙ sym (rows-over (collected t (length (t .nodes)) (k ∷ [])) a (λ c. beneath-once t (w .1 .links) k c h))
 
 pub fresh-account : (h : Float) → Account (fresh h) []
 unfolding fresh nodeAt blankNode rowsAmong

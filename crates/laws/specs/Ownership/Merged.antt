@@ -14,7 +14,8 @@ use Rattle.head.specs.declared.Settings.{Settings}
 use Rattle.rules.specs.Lists.{snoc, occurs}
 use Rattle.rules.specs.Tree.{Tree, nodeAt, entryAt, withMerged}
 use Rattle.rules.specs.Pairs.{Pair, sorted, siblings, cousins}
-use Rattle.rules.specs.Rebuild.{Merging, mergeOne, bothAlive, mergeAll, target, renumber, dropped, withMerges, rebalanced, compacted, mergedBy, mergedWith, counted, rebuilt}
+use Rattle.rules.specs.Rebuild.{Merging, mergeOne, bothAlive, mergeAll, target, renumber, dropped}
+use Rattle.rules.specs.Rebuild.{withMerges, rebalanced, compacted, mergedBy, mergedWith, counted, rebuilt}
 use Rattle.rules.specs.Reinsert.{collected, replaced, replacedAll, cleared, reinserted}
 use Rattle.rules.specs.Refold.{refolded}
 use Rattle.rules.specs.Check.{rowsIn}
@@ -38,21 +39,30 @@ use Rattle.laws.specs.Counters.{refolded-entries}
 
 -- ---- all merges
 
+-- the merges move each row with the entry that it is in
 pub merges-carry : (s : Settings) (n total : ℕ) → total ≤ most → (k : ℕ) (ps : List Pair) (m : Merging) → Merged s n total m → Every (FarPair n) ps
     → Carries (λ c. mergedInto s k ps m c) (alive (m .alive) (mergeWeight s m)) (alive ((mergeAll s k ps m) .alive) (mergeWeight s (mergeAll s k ps m)))
 unfolding mergeAll mergedInto
 merges-carry s n total b zero ps m g f = carries-same (alive (m .alive) (mergeWeight s m)) (alive (m .alive) (mergeWeight s m)) (λ c. refl)
 merges-carry s n total b (suc k) [] m g f = carries-same (alive (m .alive) (mergeWeight s m)) (alive (m .alive) (mergeWeight s m)) (λ c. refl)
 merges-carry s n total b (suc k) (p ∷ ps) m g f =
-    go (bothAlive p (m .alive)) refl (λ e. merges-carry s n total b k ps (mergeOne s p m) (merged-one p b g (f .0 .2) e) (f .1)) (merges-carry s n total b (suc k) ps m g (f .1))
+    go (bothAlive p (m .alive)) refl (λ e. merges-carry s n total b k ps (mergeOne s p m) (merged-one p b g (f .0 .2) e) (f .1))
+    (merges-carry s n total b (suc k) ps m g (f .1))
   where
     go : (l : Bool) → bothAlive p (m .alive) ≡ l
-        → (bothAlive p (m .alive) ≡ true → Carries (λ c. mergedInto s k ps (mergeOne s p m) c) (alive ((mergeOne s p m) .alive) (mergeWeight s (mergeOne s p m))) (alive ((mergeAll s k ps (mergeOne s p m)) .alive) (mergeWeight s (mergeAll s k ps (mergeOne s p m)))))
-        → Carries (λ c. mergedInto s (suc k) ps m c) (alive (m .alive) (mergeWeight s m)) (alive ((mergeAll s (suc k) ps m) .alive) (mergeWeight s (mergeAll s (suc k) ps m)))
-        → Carries (λ c. elim l as (λ _. ℕ) [ true ↦ mergedInto s k ps (mergeOne s p m) (mergedTo p c) | false ↦ mergedInto s (suc k) ps m c ]) (alive (m .alive) (mergeWeight s m))
-        (alive ((elim l as (λ _. Merging) [ true ↦ mergeAll s k ps (mergeOne s p m) | false ↦ mergeAll s (suc k) ps m ]) .alive) (mergeWeight s (elim l as (λ _. Merging) [ true ↦ mergeAll s k ps (mergeOne s p m) | false ↦ mergeAll s (suc k) ps m ])))
+        → (bothAlive p (m .alive) ≡ true → Carries (λ c. mergedInto s k ps (mergeOne s p m) c)
+        (alive ((mergeOne s p m) .alive) (mergeWeight s (mergeOne s p m))) (alive ((mergeAll s k ps (mergeOne s p m)) .alive)
+        (mergeWeight s (mergeAll s k ps (mergeOne s p m)))))
+        → Carries (λ c. mergedInto s (suc k) ps m c) (alive (m .alive) (mergeWeight s m))
+        (alive ((mergeAll s (suc k) ps m) .alive) (mergeWeight s (mergeAll s (suc k) ps m)))
+        → Carries (λ c. elim l as (λ _. ℕ) [ true ↦ mergedInto s k ps (mergeOne s p m) (mergedTo p c) | false ↦ mergedInto s (suc k) ps m c ])
+        (alive (m .alive) (mergeWeight s m))
+        (alive ((elim l as (λ _. Merging) [ true ↦ mergeAll s k ps (mergeOne s p m) | false ↦ mergeAll s (suc k) ps m ]) .alive)
+        (mergeWeight s (elim l as (λ _. Merging) [ true ↦ mergeAll s k ps (mergeOne s p m) | false ↦ mergeAll s (suc k) ps m ])))
     go true e x y =
-        carries-then (mergedTo p) (λ c. mergedInto s k ps (mergeOne s p m) c) (alive (m .alive) (mergeWeight s m)) (alive ((mergeOne s p m) .alive) (mergeWeight s (mergeOne s p m))) (alive ((mergeAll s k ps (mergeOne s p m)) .alive) (mergeWeight s (mergeAll s k ps (mergeOne s p m))))
+        carries-then (mergedTo p) (λ c. mergedInto s k ps (mergeOne s p m) c) (alive (m .alive) (mergeWeight s m))
+        (alive ((mergeOne s p m) .alive) (mergeWeight s (mergeOne s p m))) (alive ((mergeAll s k ps (mergeOne s p m)) .alive)
+        (mergeWeight s (mergeAll s k ps (mergeOne s p m))))
         (merge-carries p (f .0 .2) (alive (m .alive) (mergeWeight s m)) (alive ((mergeOne s p m) .alive) (mergeWeight s (mergeOne s p m)))
         (aw-a p b g (f .0 .2) e) (aw-b p b g (f .0 .2) e) (aw-o p b g (f .0 .2) e)) (x e)
     go false e x y = y
@@ -82,7 +92,9 @@ module _ (s : Settings) (t : Tree) {R : ℕ → ℕ} (g : Frame (nodeAt t) (leng
 
   entries-are : (reinserted s t) .entries ≡ map (entryAt t) (reverse (collected t (length (t .nodes)) (t .root ∷ [])))
   unfolding reinserted cleared
-  entries-are = all-entries s (reverse (map (entryAt t) (collected t (length (t .nodes)) (t .root ∷ [])))) (cleared t) ∙ sym (map-back (entryAt t) (collected t (length (t .nodes)) (t .root ∷ [])) [])
+  entries-are =
+      all-entries s (reverse (map (entryAt t) (collected t (length (t .nodes)) (t .root ∷ [])))) (cleared t)
+      ∙ sym (map-back (entryAt t) (collected t (length (t .nodes)) (t .root ∷ [])) [])
 
   weight-at : (k : ℕ) → entryWeight (reinserted s t) k ≡ entryWeight t (getD (reverse (collected t (length (t .nodes)) (t .root ∷ []))) k (length (t .entries)))
   unfolding entryWeight
@@ -109,19 +121,24 @@ module _ (s : Settings) (t : Tree) {R : ℕ → ℕ} (g : Frame (nodeAt t) (leng
   -- the entry itself goes by the same number
   pub reinserted-at : (c : ℕ) → c < length (t .entries) → entryAt (reinserted s t) (reinsertedTo s t c) ≡ entryAt t c
   unfolding reinsertedTo
-  reinserted-at c h = begin ∙ List·getD-map (entryAt t) order (placeIn order c) (length (t .entries)) ∙ ap (λ k. entryAt t k) (place-get order c (length (t .entries)) (let a = once c in let b = below-in c (length (t .entries)) h in omega arith))
+  reinserted-at c h =
+      begin ∙ List·getD-map (entryAt t) order (placeIn order c) (length (t .entries))
+      ∙ ap (λ k. entryAt t k) (place-get order c (length (t .entries)) (let a = once c in let b = below-in c (length (t .entries)) h in omega arith))
     where
       end : entryAt t (length (t .entries)) ≡ blank
       end = unfold entryAt in past-end (t .entries) blank (length (t .entries)) (omega arith)
 
       begin : entryAt (reinserted s t) (placeIn order c) ≡ getD (map (entryAt t) order) (placeIn order c) (entryAt t (length (t .entries)))
-      begin = subst (λ d. entryAt (reinserted s t) (placeIn order c) ≡ getD (map (entryAt t) order) (placeIn order c) d) (sym end) (unfold entryAt in ap (λ l. getD l (placeIn order c) blank) entries-are)
+      begin =
+          subst (λ d. entryAt (reinserted s t) (placeIn order c) ≡ getD (map (entryAt t) order) (placeIn order c) d) (sym end)
+          (unfold entryAt in ap (λ l. getD l (placeIn order c) blank) entries-are)
 
   pub reinsert-carries : Carries (λ c. reinsertedTo s t c) (entryWeight t) (entryWeight (reinserted s t))
   unfolding reinsertedTo
   reinsert-carries a h k =
       weight-at k ∙ h (getD (reverse (collected t (length (t .nodes)) (t .root ∷ []))) k (length (t .entries)))
-      ∙ sym (place-occurs (reverse (collected t (length (t .nodes)) (t .root ∷ []))) (length (t .entries)) k a (λ i o. let q = owner-in t a h i o in (once i ∙ below-in i (length (t .entries)) q, (λ e. clash i q e))))
+      ∙ sym (place-occurs (reverse (collected t (length (t .nodes)) (t .root ∷ []))) (length (t .entries)) k a
+      (λ i o. let q = owner-in t a h i o in (once i ∙ below-in i (length (t .entries)) q, (λ e. clash i q e))))
     where
       clash : (i : ℕ) → i < length (t .entries) → i ≡ length (t .entries) → ⊥
       clash i q e = omega arith
@@ -137,7 +154,8 @@ module _ {s : Settings} {t : Tree} {R : ℕ → ℕ} {total : ℕ} (g : Settled 
       go c (inl h) = begun-alive g n (mergeWeight s (mergeStart t)) c h
       go c (inr h) = off (flag? ((mergeStart t) .alive) c)
         where
-          off : (getD ((mergeStart t) .alive) c false ≡ true) ⊎ (getD ((mergeStart t) .alive) c false ≡ false) → alive ((mergeStart t) .alive) (mergeWeight s (mergeStart t)) c ≡ entryWeight t c
+          off : (getD ((mergeStart t) .alive) c false ≡ true) ⊎ (getD ((mergeStart t) .alive) c false ≡ false)
+              → alive ((mergeStart t) .alive) (mergeWeight s (mergeStart t)) c ≡ entryWeight t c
           off (inl e) = alive-up ((mergeStart t) .alive) (mergeWeight s (mergeStart t)) c e
           off (inr e) = alive-down ((mergeStart t) .alive) (mergeWeight s (mergeStart t)) c e ∙ sym (weight-past t c h)
 
@@ -151,36 +169,49 @@ module _ {s : Settings} {t : Tree} {R : ℕ → ℕ} {total : ℕ} (g : Settled 
         same : (c : ℕ) → alive (m .alive) (entryWeight (withMerges t m)) c ≡ alive (m .alive) (mergeWeight s m) c
         same c = unfold withMerges entryWeight entryAt mergeWeight alive in refl
 
-    again-moves : Carries (λ c. reinsertedTo s (withMerged 0 (dropped (m .alive) (withMerges t m))) c) (entryWeight (dropped (m .alive) (withMerges t m))) (entryWeight (reinserted s (withMerged 0 (dropped (m .alive) (withMerges t m)))))
-    again-moves a k = reinsert-carries s (withMerged 0 (dropped (m .alive) (withMerges t m))) {R = R} (unfold withMerged nodeAt in frame-v g n d h) a (λ c. same c ∙ k c)
+    again-moves : Carries (λ c. reinsertedTo s (withMerged 0 (dropped (m .alive) (withMerges t m))) c) (entryWeight (dropped (m .alive) (withMerges t m)))
+        (entryWeight (reinserted s (withMerged 0 (dropped (m .alive) (withMerges t m)))))
+    again-moves a k =
+        reinsert-carries s (withMerged 0 (dropped (m .alive) (withMerges t m))) {R = R} (unfold withMerged nodeAt in frame-v g n d h) a (λ c. same c ∙ k c)
       where
         same : (c : ℕ) → entryWeight (withMerged 0 (dropped (m .alive) (withMerges t m))) c ≡ entryWeight (dropped (m .alive) (withMerges t m)) c
         same c = unfold withMerged entryWeight entryAt in refl
 
-    balance-moves : (across : Bool) → Carries (λ c. rebalancedTo s across (dropped (m .alive) (withMerges t m)) c) (entryWeight (dropped (m .alive) (withMerges t m))) (entryWeight (rebalanced s across (dropped (m .alive) (withMerges t m))))
+    balance-moves : (across : Bool) → Carries (λ c. rebalancedTo s across (dropped (m .alive) (withMerges t m)) c)
+        (entryWeight (dropped (m .alive) (withMerges t m))) (entryWeight (rebalanced s across (dropped (m .alive) (withMerges t m))))
     unfolding rebalanced rebalancedTo
     balance-moves across = go (across || leb (s .«max_leaves») ((dropped (m .alive) (withMerges t m)) .merged))
       where
-        go : (b : Bool) → Carries (λ c. cond b (reinsertedTo s (withMerged 0 (dropped (m .alive) (withMerges t m))) c) c) (entryWeight (dropped (m .alive) (withMerges t m)))
+        go : (b : Bool) → Carries (λ c. cond b (reinsertedTo s (withMerged 0 (dropped (m .alive) (withMerges t m))) c) c)
+            (entryWeight (dropped (m .alive) (withMerges t m)))
             (entryWeight (cond b (reinserted s (withMerged 0 (dropped (m .alive) (withMerges t m)))) (dropped (m .alive) (withMerges t m))))
         go true = again-moves
         go false = carries-same (entryWeight (dropped (m .alive) (withMerges t m))) (entryWeight (dropped (m .alive) (withMerges t m))) (λ c. refl)
 
-    compact-moves : (across : Bool) → 1 ≤ m .count → Carries (λ c. compactedTo s across t m c) (alive (m .alive) (mergeWeight s m)) (entryWeight (compacted s across t m))
+    compact-moves : (across : Bool) → 1 ≤ m .count
+        → Carries (λ c. compactedTo s across t m c) (alive (m .alive) (mergeWeight s m)) (entryWeight (compacted s across t m))
     unfolding compacted compactedTo
     compact-moves across k = go (eqb (m .count) 0) refl
       where
-        go : (b : Bool) → eqb (m .count) 0 ≡ b → Carries (λ c. cond b c (rebalancedTo s across (dropped (m .alive) (withMerges t m)) (renumber (m .alive) c))) (alive (m .alive) (mergeWeight s m)) (entryWeight (cond b t (rebalanced s across (dropped (m .alive) (withMerges t m)))))
+        go : (b : Bool) → eqb (m .count) 0 ≡ b → Carries (λ c. cond b c (rebalancedTo s across (dropped (m .alive) (withMerges t m)) (renumber (m .alive) c)))
+            (alive (m .alive) (mergeWeight s m)) (entryWeight (cond b t (rebalanced s across (dropped (m .alive) (withMerges t m)))))
         go true e = let z = eq-test (m .count) 0 true e .0 refl in absurd (omega arith)
-        go false e = carries-then (renumber (m .alive)) (λ c. rebalancedTo s across (dropped (m .alive) (withMerges t m)) c) (alive (m .alive) (mergeWeight s m)) (entryWeight (dropped (m .alive) (withMerges t m))) (entryWeight (rebalanced s across (dropped (m .alive) (withMerges t m)))) drop-moves (balance-moves across)
+        go false e =
+            carries-then (renumber (m .alive)) (λ c. rebalancedTo s across (dropped (m .alive) (withMerges t m)) c) (alive (m .alive) (mergeWeight s m))
+            (entryWeight (dropped (m .alive) (withMerges t m))) (entryWeight (rebalanced s across (dropped (m .alive) (withMerges t m)))) drop-moves
+            (balance-moves across)
 
-  by-moves : (across : Bool) (ps : List Pair) → 1 ≤ s .«max_leaves» → s .«max_leaves» < length (t .entries) → 0 < length ps → Every (FarPair (length (t .entries))) ps
+  by-moves : (across : Bool) (ps : List Pair) → 1 ≤ s .«max_leaves» → s .«max_leaves» < length (t .entries) → 0 < length ps
+      → Every (FarPair (length (t .entries))) ps
       → Carries (λ c. mergedByTo s across ps t c) (entryWeight t) (entryWeight (mergedBy s across ps t))
   unfolding mergedBy mergedByTo
   by-moves across ps one more some-ps far =
-      carries-then (λ c. mergedInto s (length (t .entries) - target (s .«max_leaves»)) (sorted ps) (mergeStart t) c) (λ c. compactedTo s across t m c) (entryWeight t) (alive (m .alive) (mergeWeight s m)) (entryWeight (compacted s across t m))
-      (carries-then (λ c. c) (λ c. mergedInto s (length (t .entries) - target (s .«max_leaves»)) (sorted ps) (mergeStart t) c) (entryWeight t) (alive ((mergeStart t) .alive) (mergeWeight s (mergeStart t))) (alive (m .alive) (mergeWeight s m))
-      begin-carries (merges-carry s (length (t .entries)) total (g .exact .small) (length (t .entries) - target (s .«max_leaves»)) (sorted ps) (mergeStart t) (begun-merged g n) all-far))
+      carries-then (λ c. mergedInto s (length (t .entries) - target (s .«max_leaves»)) (sorted ps) (mergeStart t) c) (λ c. compactedTo s across t m c)
+      (entryWeight t) (alive (m .alive) (mergeWeight s m)) (entryWeight (compacted s across t m))
+      (carries-then (λ c. c) (λ c. mergedInto s (length (t .entries) - target (s .«max_leaves»)) (sorted ps) (mergeStart t) c) (entryWeight t)
+      (alive ((mergeStart t) .alive) (mergeWeight s (mergeStart t))) (alive (m .alive) (mergeWeight s m))
+      begin-carries (merges-carry s (length (t .entries)) total (g .exact .small) (length (t .entries) - target (s .«max_leaves»)) (sorted ps) (mergeStart t)
+      (begun-merged g n) all-far))
       (compact-moves merged (omega arith) across (first (sorted ps) (sorted-length ps) all-far))
     where
       m : Merging
@@ -190,21 +221,28 @@ module _ {s : Settings} {t : Tree} {R : ℕ → ℕ} {total : ℕ} (g : Settled 
       all-far = every-sorted (FarPair (length (t .entries))) ps far
 
       merged : Merged s (length (t .entries)) total (mergeAll s (length (t .entries) - target (s .«max_leaves»)) (sorted ps) (mergeStart t))
-      merged = merge-all s (Merged s (length (t .entries)) total) (FarPair (length (t .entries))) (λ p m q l x. merged-one p (g .exact .small) x (q .2) l) (length (t .entries) - target (s .«max_leaves»)) (sorted ps) (mergeStart t) all-far (begun-merged g n)
+      merged =
+          merge-all s (Merged s (length (t .entries)) total) (FarPair (length (t .entries))) (λ p m q l x. merged-one p (g .exact .small) x (q .2) l)
+          (length (t .entries) - target (s .«max_leaves»)) (sorted ps) (mergeStart t) all-far (begun-merged g n)
 
       enough : 1 ≤ length (t .entries) - target (s .«max_leaves»)
       enough = unfold target in omega arith
 
-      first : (qs : List Pair) → length qs ≡ length ps → Every (FarPair (length (t .entries))) qs → 1 ≤ (mergeAll s (length (t .entries) - target (s .«max_leaves»)) qs (mergeStart t)) .count
+      first : (qs : List Pair) → length qs ≡ length ps → Every (FarPair (length (t .entries))) qs
+          → 1 ≤ (mergeAll s (length (t .entries) - target (s .«max_leaves»)) qs (mergeStart t)) .count
       first [] e a = absurd (omega arith)
       first (q ∷ qs) e a = merges-some s (length (t .entries) - target (s .«max_leaves»)) q qs (mergeStart t) enough (living-first g n q (a .0))
 
-  with-moves : 1 ≤ s .«max_leaves» → s .«max_leaves» < length (t .entries) → Carries (λ c. mergedWithTo s (siblings s t (t .nodes)) t c) (entryWeight t) (entryWeight (mergedWith s (siblings s t (t .nodes)) t))
+  with-moves : 1 ≤ s .«max_leaves» → s .«max_leaves» < length (t .entries)
+      → Carries (λ c. mergedWithTo s (siblings s t (t .nodes)) t c) (entryWeight t) (entryWeight (mergedWith s (siblings s t (t .nodes)) t))
   unfolding mergedWith mergedWithTo
   with-moves one more = go (siblings s t (t .nodes)) refl (siblings-all s t)
     where
-      go : (ps : List Pair) → siblings s t (t .nodes) ≡ ps → Every (NearPair s t) ps → Carries (λ c. mergedWithTo s ps t c) (entryWeight t) (entryWeight (mergedWith s ps t))
-      go [] e a = by-moves true (cousins s t (t .nodes)) one more (cousins-some t (g .links) (leaves-single s t R nil nil nil (g .links) (ap (λ z. length z) e)) (omega arith)) (cousins-far t (g .links) (t .nodes))
+      go : (ps : List Pair) → siblings s t (t .nodes) ≡ ps → Every (NearPair s t) ps
+          → Carries (λ c. mergedWithTo s ps t c) (entryWeight t) (entryWeight (mergedWith s ps t))
+      go [] e a =
+          by-moves true (cousins s t (t .nodes)) one more (cousins-some t (g .links) (leaves-single s t R nil nil nil (g .links) (ap (λ z. length z) e))
+          (omega arith)) (cousins-far t (g .links) (t .nodes))
       go (p ∷ ps) e a = by-moves false (p ∷ ps) one more (omega arith) (every-map (NearPair s t) (FarPair (length (t .entries))) (p ∷ ps) (near-far g n) a)
 
   pub rebuild-moves : 1 ≤ s .«max_leaves» → s .«max_leaves» < length (t .entries) → Carries (λ c. rebuiltTo s t c) (entryWeight t) (entryWeight (rebuilt s t))

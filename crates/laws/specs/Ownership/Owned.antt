@@ -65,7 +65,8 @@ module _ (s : Settings) (x : List Float) (t : Tree) (exact : (c : ℕ) → c < l
   unfolding begun withNodes withEntries entryWeight entryAt
   new-one l c = go (same? c (length (t .entries)))
     where
-      go : (c ≡ length (t .entries)) ⊎ (c ≢ length (t .entries)) → rowsIn (getD (snoc (t .entries) (push s x blank)) c blank) ≡ rowsIn (getD (t .entries) c blank) + is c (length (t .entries))
+      go : (c ≡ length (t .entries)) ⊎ (c ≢ length (t .entries)) → rowsIn (getD (snoc (t .entries) (push s x blank)) c blank)
+          ≡ rowsIn (getD (t .entries) c blank) + is c (length (t .entries))
       go (inl q) =
           let a : rowsIn (getD (snoc (t .entries) (push s x blank)) c blank) ≡ 1 =
           ap (λ k. rowsIn (getD (snoc (t .entries) (push s x blank)) k blank)) q ∙ ap (λ m. rowsIn m) (snoc-at (t .entries) (push s x blank) blank)
@@ -74,7 +75,8 @@ module _ (s : Settings) (x : List Float) (t : Tree) (exact : (c : ℕ) → c < l
           let d = is-same c (length (t .entries)) q in
           omega arith
       go (inr q) =
-          let a : rowsIn (getD (snoc (t .entries) (push s x blank)) c blank) ≡ rowsIn (getD (t .entries) c blank) = ap (λ m. rowsIn m) (snoc-off (t .entries) (push s x blank) blank c q) in
+          let a : rowsIn (getD (snoc (t .entries) (push s x blank)) c blank) ≡ rowsIn (getD (t .entries) c blank) =
+          ap (λ m. rowsIn m) (snoc-off (t .entries) (push s x blank) blank c q) in
           let d = is-other c (length (t .entries)) q in
           omega arith
 
@@ -86,16 +88,19 @@ module _ (s : Settings) (x : List Float) (t : Tree) (exact : (c : ℕ) → c < l
       go (inl q) =
           let a : rowsIn (getD (changeAt (push s x) e (t .entries)) c blank) ≡ suc (rowsIn (getD (t .entries) e blank)) =
           ap (λ k. rowsIn (getD (changeAt (push s x) e (t .entries)) k blank)) q ∙ ap (λ m. rowsIn m) (change-at (push s x) e blank (t .entries) h)
-          ∙ exact-count (push s x (getD (t .entries) e blank)) (suc (rowsIn (getD (t .entries) e blank))) (push-weigh s x (getD (t .entries) e blank) (rowsIn (getD (t .entries) e blank)) (exact e h .0) (exact e h .1)) in
+          ∙ exact-count (push s x (getD (t .entries) e blank)) (suc (rowsIn (getD (t .entries) e blank)))
+          (push-weigh s x (getD (t .entries) e blank) (rowsIn (getD (t .entries) e blank)) (exact e h .0) (exact e h .1)) in
           let b : rowsIn (getD (t .entries) c blank) ≡ rowsIn (getD (t .entries) e blank) = ap (λ k. rowsIn (getD (t .entries) k blank)) q in
           let d = is-same c e q in
           omega arith
       go (inr q) =
-          let a : rowsIn (getD (changeAt (push s x) e (t .entries)) c blank) ≡ rowsIn (getD (t .entries) c blank) = ap (λ m. rowsIn m) (change-off (push s x) e c blank (t .entries) q) in
+          let a : rowsIn (getD (changeAt (push s x) e (t .entries)) c blank) ≡ rowsIn (getD (t .entries) c blank) =
+          ap (λ m. rowsIn m) (change-off (push s x) e c blank (t .entries) q) in
           let d = is-other c e q in
           omega arith
 
-  pub joined-one : (l : ℕ) (r : Nearest) → Hit (λ e. e < (length (t .entries))) r → (c : ℕ) → entryWeight (absorbedOrBegun s x l r t) c ≡ entryWeight t c + is c (takerOf s x r t)
+  pub joined-one : (l : ℕ) (r : Nearest) → Hit (λ e. e < (length (t .entries))) r → (c : ℕ)
+      → entryWeight (absorbedOrBegun s x l r t) c ≡ entryWeight t c + is c (takerOf s x r t)
   unfolding absorbedOrBegun takerOf
   joined-one l Nothing h c = new-one l c
   joined-one l (Entry e) h c = go (absorbs s x e t)
@@ -138,14 +143,17 @@ module _ (p : Pair) (d : p .one ≢ p .two) where
       go true q = absurd (e (eq-test i (p .two) true q .0 refl))
       go false q = refl
 
-  pub merge-carries : (v w : ℕ → ℕ) → w (p .one) ≡ v (p .one) + v (p .two) → w (p .two) ≡ 0 → ((c : ℕ) → c ≢ p .one → c ≢ p .two → w c ≡ v c) → Carries (mergedTo p) v w
+  pub merge-carries : (v w : ℕ → ℕ) → w (p .one) ≡ v (p .one) + v (p .two) → w (p .two) ≡ 0 → ((c : ℕ) → c ≢ p .one → c ≢ p .two → w c ≡ v c)
+      → Carries (mergedTo p) v w
   merge-carries v w h1 h2 h3 a h c = go (same? c (p .one)) (same? c (p .two))
     where
       go : (c ≡ p .one) ⊎ (c ≢ p .one) → (c ≡ p .two) ⊎ (c ≢ p .two) → w c ≡ occurs c (map (mergedTo p) a)
       go (inl x) (inl y) = absurd (d (sym x ∙ y))
       go (inl x) (inr y) =
-          ap w x ∙ h1 ∙ ap (λ z. z + v (p .two)) (h (p .one) ∙ occurs-over (p .one) a) ∙ ap (λ z. over (is (p .one)) a + z) (h (p .two) ∙ occurs-over (p .two) a)
-          ∙ sym (map-occurs (mergedTo p) c a ∙ over-same (λ i. is c (mergedTo p i)) (λ i. is (p .one) i + is (p .two) i) a (λ i o. each i (same? i (p .two))) ∙ over-plus (is (p .one)) (is (p .two)) a)
+          ap w x ∙ h1 ∙ ap (λ z. z + v (p .two)) (h (p .one) ∙ occurs-over (p .one) a) ∙ ap (λ z. over (is (p .one)) a + z) (h (p .two)
+          ∙ occurs-over (p .two) a)
+          ∙ sym (map-occurs (mergedTo p) c a ∙ over-same (λ i. is c (mergedTo p i)) (λ i. is (p .one) i + is (p .two) i) a (λ i o. each i (same? i (p .two)))
+          ∙ over-plus (is (p .one)) (is (p .two)) a)
         where
           each : (i : ℕ) → (i ≡ p .two) ⊎ (i ≢ p .two) → is c (mergedTo p i) ≡ is (p .one) i + is (p .two) i
           each i (inl e) =
@@ -164,7 +172,8 @@ module _ (p : Pair) (d : p .one ≢ p .two) where
           each i (inl e) = is-other c (mergedTo p i) (λ z. x (z ∙ at-two i e))
           each i (inr e) = is-other c (mergedTo p i) (λ z. e (sym (off-two i e) ∙ sym z ∙ y))
       go (inr x) (inr y) =
-          h3 c x y ∙ h c ∙ occurs-over c a ∙ sym (map-occurs (mergedTo p) c a ∙ over-same (λ i. is c (mergedTo p i)) (is c) a (λ i o. each i (same? i (p .two))))
+          h3 c x y ∙ h c ∙ occurs-over c a
+          ∙ sym (map-occurs (mergedTo p) c a ∙ over-same (λ i. is c (mergedTo p i)) (is c) a (λ i o. each i (same? i (p .two))))
         where
           each : (i : ℕ) → (i ≡ p .two) ⊎ (i ≢ p .two) → is c (mergedTo p i) ≡ is c i
           each i (inl e) = ap (λ z. is c z) (at-two i e) ∙ is-other c (p .one) x ∙ sym (is-other c i (λ z. y (z ∙ e)))
@@ -205,18 +214,23 @@ module _ (s : Settings) (u : Tree) (bs : List Bool) (len : length bs ≡ length 
           go (inr e) = let p = alive-down bs (entryWeight u) i e in let q = h i in absurd (omega arith)
 
       each : (i : ℕ) → (getD bs i false ≡ true) ⊎ (getD bs i false ≡ false) → occurs i a * is k (renumber bs i) ≡ alive bs (λ i. only (W k) k (renumber bs i)) i
-      each i (inr e) = ap (λ z. z * is k (renumber bs i)) (sym (h i) ∙ alive-down bs (entryWeight u) i e) ∙ zero-mul (is k (renumber bs i)) ∙ sym (alive-down bs (λ i. only (W k) k (renumber bs i)) i e)
+      each i (inr e) =
+          ap (λ z. z * is k (renumber bs i)) (sym (h i) ∙ alive-down bs (entryWeight u) i e) ∙ zero-mul (is k (renumber bs i))
+          ∙ sym (alive-down bs (λ i. only (W k) k (renumber bs i)) i e)
       each i (inl e) = by (same? (renumber bs i) k) ∙ sym (alive-up bs (λ i. only (W k) k (renumber bs i)) i e)
         where
           by : (renumber bs i ≡ k) ⊎ (renumber bs i ≢ k) → occurs i a * is k (renumber bs i) ≡ only (W k) k (renumber bs i)
           by (inl q) =
-              ap (λ z. occurs i a * z) (is-same k (renumber bs i) (sym q)) ∙ mul-one (occurs i a) ∙ sym (h i) ∙ alive-up bs (entryWeight u) i e ∙ sym (weight-is i e) ∙ ap (λ z. W z) q
+              ap (λ z. occurs i a * z) (is-same k (renumber bs i) (sym q)) ∙ mul-one (occurs i a) ∙ sym (h i) ∙ alive-up bs (entryWeight u) i e
+              ∙ sym (weight-is i e) ∙ ap (λ z. W z) q
               ∙ sym (only-at (W k) k (renumber bs i) q)
           by (inr q) = ap (λ z. occurs i a * z) (is-other k (renumber bs i) (λ z. q (sym z))) ∙ mul-zero (occurs i a) ∙ sym (only-off (W k) k (renumber bs i) q)
 
       last : (k < countUp bs) ⊎ (countUp bs ≤ k) → sumTo (λ j. only (W k) k j) (countUp bs) ≡ W k
       last (inl q) = sum-only (W k) k (countUp bs) q
-      last (inr q) = sum-none (λ j. only (W k) k j) (countUp bs) (λ j r. only-off (W k) k j (λ z. clash j r z)) ∙ sym (weight-past (dropped bs u) k (let z = len-e in omega arith))
+      last (inr q) =
+          sum-none (λ j. only (W k) k j) (countUp bs) (λ j r. only-off (W k) k j (λ z. clash j r z))
+          ∙ sym (weight-past (dropped bs u) k (let z = len-e in omega arith))
         where
           clash : (j : ℕ) → j < countUp bs → j ≡ k → ⊥
           clash j r z = omega arith
@@ -265,10 +279,14 @@ get-place (x ∷ l) (suc k) d h o =
     clash a b = omega arith
 
 -- each owner is in l once, and not n: row by row, place k is the number that stands there
-pub place-occurs : (l : List ℕ) (n k : ℕ) (a : List ℕ) → ((i : ℕ) → 0 < occurs i a → (occurs i l ≡ 1) × (i ≢ n)) → occurs k (map (placeIn l) a) ≡ occurs (getD l k n) a
-place-occurs l n k a h = map-occurs (placeIn l) k a ∙ over-same (λ i. is k (placeIn l i)) (is (getD l k n)) a (λ i o. each i (h i o .0) (h i o .1) (same? k (placeIn l i)) (lt? k (length l))) ∙ sym (occurs-over (getD l k n) a)
+pub place-occurs : (l : List ℕ) (n k : ℕ) (a : List ℕ) → ((i : ℕ) → 0 < occurs i a → (occurs i l ≡ 1) × (i ≢ n))
+    → occurs k (map (placeIn l) a) ≡ occurs (getD l k n) a
+place-occurs l n k a h =
+    map-occurs (placeIn l) k a ∙ over-same (λ i. is k (placeIn l i)) (is (getD l k n)) a (λ i o. each i (h i o .0) (h i o .1) (same? k (placeIn l i))
+    (lt? k (length l))) ∙ sym (occurs-over (getD l k n) a)
   where
     each : (i : ℕ) → occurs i l ≡ 1 → i ≢ n → (k ≡ placeIn l i) ⊎ (k ≢ placeIn l i) → (k < length l) ⊎ (length l ≤ k) → is k (placeIn l i) ≡ is (getD l k n) i
     each i o q (inl e) f = is-same k (placeIn l i) e ∙ sym (is-same (getD l k n) i (ap (λ z. getD l z n) e ∙ place-get l i n (let y = o in omega arith)))
-    each i o q (inr e) (inl f) = is-other k (placeIn l i) e ∙ sym (is-other (getD l k n) i (λ z. e (sym (get-place l k n f (ap (λ y. occurs y l) z ∙ o)) ∙ ap (λ y. placeIn l y) z)))
+    each i o q (inr e) (inl f) =
+        is-other k (placeIn l i) e ∙ sym (is-other (getD l k n) i (λ z. e (sym (get-place l k n f (ap (λ y. occurs y l) z ∙ o)) ∙ ap (λ y. placeIn l y) z)))
     each i o q (inr e) (inr f) = is-other k (placeIn l i) e ∙ sym (is-other (getD l k n) i (λ z. q (sym z ∙ past-end l n k f)))

@@ -1,4 +1,5 @@
--- Whose each row is: an account beside the tree, with the number of the entry that owns each row, in order of arrival. Each step moves it by the numbers that the step itself uses.
+-- Whose each row is: an account beside the tree, with the number of the entry that owns each row, in order of arrival.
+-- Each step moves it by the numbers that the step itself uses.
 use Prim.Native.Nat.{ℕ, zero, suc, _-_, _<_}
 use mathlib.Core.Path.{_≡_}
 use mathlib.Core.Bool.{Bool, true, false, _||_, _&&_, not, cond}
@@ -41,7 +42,8 @@ mergedTo p c = cond (eqb c (p .two)) (p .one) c
 unfoldable pub mergedInto : Settings → ℕ → List Pair → Merging → ℕ → ℕ
 mergedInto s zero ps m c = c
 mergedInto s (suc k) [] m c = c
-mergedInto s (suc k) (p ∷ ps) m c = elim (bothAlive p (m .alive)) [ true ↦ mergedInto s k ps (mergeOne s p m) (mergedTo p c) | false ↦ mergedInto s (suc k) ps m c ]
+mergedInto s (suc k) (p ∷ ps) m c =
+    elim (bothAlive p (m .alive)) [ true ↦ mergedInto s k ps (mergeOne s p m) (mergedTo p c) | false ↦ mergedInto s (suc k) ps m c ]
 
 -- reinsertion: the place of c in a list
 unfoldable pub placeIn : List ℕ → ℕ → ℕ
@@ -93,7 +95,11 @@ refitOwners s xs (suc k) r t a =
     let b = map (route s t) xs in
     elim (every (λ b. b) alive) [
       | true ↦ b
-      | false ↦ elim (not (anyHollow (u .nodes)) && leb 1 r) [ true ↦ map (renumber alive) b | false ↦ refitOwners s xs k (suc r) (reinserted s u) (map (reinsertedTo s u) (map (renumber alive) b)) ]
+      | false ↦ elim (not (anyHollow (u .nodes)) && leb 1 r) [
+        | true ↦ map (renumber alive) b
+        | false ↦ refitOwners s xs k (suc r) (reinserted s u)
+            (map (reinsertedTo s u) (map (renumber alive) b))
+      ]
     ]
 
 unfoldable pub ownersRefit : Settings → List (List Float) → Tree → List ℕ → List ℕ

@@ -47,16 +47,24 @@ module _ (s : Settings) (x : List Float) (t : Tree) (total : ℕ) (small : total
   U = alongPath (push s x) (leafFor t (λ c. distTo s c x)) t
 
   abbrev hit : Nearest
-  hit = searched (λ e. distTo s (entryAt (alongPath (push s x) (leafFor t (λ c. distTo s c x)) t) e) x) (nodeAt (alongPath (push s x) (leafFor t (λ c. distTo s c x)) t) (leafFor t (λ c. distTo s c x)) .list)
+  hit =
+      searched (λ e. distTo s (entryAt (alongPath (push s x) (leafFor t (λ c. distTo s c x)) t) e) x)
+      (nodeAt (alongPath (push s x) (leafFor t (λ c. distTo s c x)) t) (leafFor t (λ c. distTo s c x)) .list)
 
   exact : Holding s t total → (c : ℕ) → c < length (t .entries) → IsExact (entryAt t c) × (entryWeight t c < most)
   exact (inl b) c h = let z : length (t .entries) ≡ 0 = ap (λ u. length (u .entries)) (b .0 .5) in absurd (omega arith)
   exact (inr w) c h = (w .1 .exact .at-entry c h, let a = sum-at (entryWeight t) c (length (t .entries)) h in let b = w .2 in omega arith)
 
   hit-in : Holding s t total → Hit (λ e. e < length (t .entries)) (hit)
-  hit-in (inl b) = subst (λ t. Hit (λ e. e < length (t .entries)) (searched (λ e. distTo s (entryAt (alongPath (push s x) (leafFor t (λ c. distTo s c x)) t) e) x) (nodeAt (alongPath (push s x) (leafFor t (λ c. distTo s c x)) t) (leafFor t (λ c. distTo s c x)) .list))) (sym (b .0 .5)) (none-there (b .0 .0) (b .0 .1) (b .0 .2) (b .0 .3))
+  hit-in (inl b) =
+      subst (λ t. Hit (λ e. e < length (t .entries)) (searched (λ e. distTo s (entryAt (alongPath (push s x) (leafFor t (λ c. distTo s c x)) t) e) x)
+      (nodeAt (alongPath (push s x) (leafFor t (λ c. distTo s c x)) t) (leafFor t (λ c. distTo s c x)) .list))) (sym (b .0 .5))
+      (none-there (b .0 .0) (b .0 .1) (b .0 .2) (b .0 .3))
     where
-      none-there : (z : Summary) (h : Float) (r m : ℕ) → Hit (λ e. e < 0) (searched (λ e. distTo s (entryAt (alongPath (push s x) (leafFor (emptyTree z h r m) (λ c. distTo s c x)) (emptyTree z h r m)) e) x) (nodeAt (alongPath (push s x) (leafFor (emptyTree z h r m) (λ c. distTo s c x)) (emptyTree z h r m)) (leafFor (emptyTree z h r m) (λ c. distTo s c x)) .list))
+      none-there : (z : Summary) (h : Float) (r m : ℕ)
+          → Hit (λ e. e < 0) (searched (λ e. distTo s (entryAt (alongPath (push s x) (leafFor (emptyTree z h r m) (λ c. distTo s c x)) (emptyTree z h r m)) e)
+          x) (nodeAt (alongPath (push s x) (leafFor (emptyTree z h r m) (λ c. distTo s c x)) (emptyTree z h r m))
+          (leafFor (emptyTree z h r m) (λ c. distTo s c x)) .list))
       none-there z h r m = unfold searched searching leafFor descended alongPath climbed changeAt summed withNodes nodeAt in tt
   hit-in (inr w) = go (hit) (search-among (λ e. distTo s (entryAt U e) x) (nodeAt U L .list))
     where
@@ -67,7 +75,8 @@ module _ (s : Settings) (x : List Float) (t : Tree) (total : ℕ) (small : total
       go Nothing a = tt
       go (Entry e) a =
           let q = leaf-found s t (λ c. distTo s c x) (w .0) nil nil nil (w .1 .links) in
-          held-in s (nodeAt t) (length (t .nodes)) (t .root) (length (t .entries)) (w .0) nil nil nil (w .1 .links) L e (q .0) (q .1) (subst (λ l. 0 < occurs e l) same a) .0
+          held-in s (nodeAt t) (length (t .nodes)) (t .root) (length (t .entries)) (w .0) nil nil nil (w .1 .links) L e (q .0) (q .1)
+          (subst (λ l. 0 < occurs e l) same a) .0
 
   pub grown-owned : (a : List ℕ) → Holding s t total → Owned t a → Owned (grown s x t) (snoc a (taker s x t))
   grown-owned a k w c =
@@ -77,18 +86,25 @@ module _ (s : Settings) (x : List Float) (t : Tree) (total : ℕ) (small : total
       omega arith
     where
       joined : (c : ℕ) → entryWeight (absorbedOrBegun s x L (hit) U) c ≡ entryWeight t c + is c (takerOf s x (hit) U)
-      joined c = joined-one s x U (unfold alongPath withNodes entryWeight entryAt in exact k) L (hit) (unfold alongPath withNodes in hit-in k) c ∙ (unfold alongPath withNodes entryWeight entryAt in refl)
+      joined c =
+          joined-one s x U (unfold alongPath withNodes entryWeight entryAt in exact k) L (hit) (unfold alongPath withNodes in hit-in k) c
+          ∙ (unfold alongPath withNodes entryWeight entryAt in refl)
 
       taken : (c : ℕ) → entryWeight (grown s x t) c ≡ entryWeight t c + is c (taker s x t)
       taken c = unfold grown grownAt placed settled taker in (ends c ∙ joined c)
         where
           ends : (c : ℕ) → entryWeight (settled s L (absorbedOrBegun s x L (hit) U)) c ≡ entryWeight (absorbedOrBegun s x L (hit) U) c
-          ends c = unfold settled entryWeight entryAt in ap (λ l. rowsIn (getD l c blank)) (splitUp-entries s (length ((absorbedOrBegun s x L (hit) U) .nodes)) L (absorbedOrBegun s x L (hit) U))
+          ends c =
+              unfold settled entryWeight entryAt in ap (λ l. rowsIn (getD l c blank)) (splitUp-entries s (length ((absorbedOrBegun s x L (hit) U) .nodes)) L
+              (absorbedOrBegun s x L (hit) U))
 
   -- the row was pushed into its taker, and nothing else of the entries changed
   pub grown-took : Holding s t total
-      → (grown s x t) .entries ≡ cond (eqb (taker s x t) (length (t .entries))) (snoc (t .entries) (push s x blank)) (changeAt (push s x) (taker s x t) (t .entries))
-  grown-took k = unfold grown grownAt placed settled taker in (splitUp-entries s (length ((absorbedOrBegun s x L (hit) U) .nodes)) L (absorbedOrBegun s x L (hit) U) ∙ joined (hit) (hit-in k))
+      → (grown s x t) .entries ≡ cond (eqb (taker s x t) (length (t .entries))) (snoc (t .entries) (push s x blank))
+      (changeAt (push s x) (taker s x t) (t .entries))
+  grown-took k =
+      unfold grown grownAt placed settled taker in (splitUp-entries s (length ((absorbedOrBegun s x L (hit) U) .nodes)) L (absorbedOrBegun s x L (hit) U)
+      ∙ joined (hit) (hit-in k))
     where
       at-end : (n : ℕ) (p q : List Summary) → cond (eqb n n) p q ≡ p
       at-end n p q = go (eqb n n) refl
@@ -108,18 +124,27 @@ module _ (s : Settings) (x : List Float) (t : Tree) (total : ℕ) (small : total
       Out c = cond (eqb c (length (t .entries))) (snoc (t .entries) (push s x blank)) (changeAt (push s x) c (t .entries))
 
       joined : (r : Nearest) → Hit (λ e. e < length (t .entries)) r → (absorbedOrBegun s x L r U) .entries ≡ Out (takerOf s x r U)
-      joined Nothing h = unfold absorbedOrBegun takerOf begun withNodes withEntries alongPath in sym (at-end (length (t .entries)) (snoc (t .entries) (push s x blank)) (changeAt (push s x) (length (t .entries)) (t .entries)))
+      joined Nothing h =
+          unfold absorbedOrBegun takerOf begun withNodes withEntries alongPath in sym (at-end (length (t .entries)) (snoc (t .entries) (push s x blank))
+          (changeAt (push s x) (length (t .entries)) (t .entries)))
       joined (Entry e) h = unfold absorbedOrBegun takerOf begun absorbed withNodes withEntries alongPath in pick (absorbs s x e U)
         where
           pick : (b : Bool) → (cond b (absorbed s x e U) (begun L (push s x blank) U)) .entries ≡ Out (cond b e (length (U .entries)))
-          pick true = unfold absorbed withNodes withEntries alongPath in sym (not-end e (length (t .entries)) (snoc (t .entries) (push s x blank)) (changeAt (push s x) e (t .entries)) h)
-          pick false = unfold begun withNodes withEntries alongPath in sym (at-end (length (t .entries)) (snoc (t .entries) (push s x blank)) (changeAt (push s x) (length (t .entries)) (t .entries)))
+          pick true =
+              unfold absorbed withNodes withEntries alongPath in sym (not-end e (length (t .entries)) (snoc (t .entries) (push s x blank))
+              (changeAt (push s x) e (t .entries)) h)
+          pick false =
+              unfold begun withNodes withEntries alongPath in sym (at-end (length (t .entries)) (snoc (t .entries) (push s x blank))
+              (changeAt (push s x) (length (t .entries)) (t .entries)))
 
 -- ---- one row, and all
 
-pub inserted-owned : (s : Settings) (x : List Float) (t : Tree) (total : ℕ) (a : List ℕ) → Caps s → 1 ≤ s .«max_leaves» → Kept s t total → total < most → Owned t a → Owned (inserted s x t) (ownersIn s x t a)
+-- a row in, rebuild or not: each entry still weighs as many rows as the account gives it
+pub inserted-owned : (s : Settings) (x : List Float) (t : Tree) (total : ℕ) (a : List ℕ) → Caps s → 1 ≤ s .«max_leaves» → Kept s t total → total < most
+    → Owned t a → Owned (inserted s x t) (ownersIn s x t a)
 unfolding inserted ownersIn
-inserted-owned s x t total a c one k h w = go (ltb (s .«max_leaves») (length ((grown s x t) .entries))) (ltb→lt (s .«max_leaves») (length ((grown s x t) .entries)))
+inserted-owned s x t total a c one k h w =
+    go (ltb (s .«max_leaves») (length ((grown s x t) .entries))) (ltb→lt (s .«max_leaves») (length ((grown s x t) .entries)))
   where
     big : Whole s (grown s x t) (suc total)
     big = grown-holds s x t total c (k .0) h
@@ -127,7 +152,8 @@ inserted-owned s x t total a c one k h w = go (ltb (s .«max_leaves») (length (
     now : Owned (grown s x t) (snoc a (taker s x t))
     now = grown-owned s x t total h a (k .0) w
 
-    go : (b : Bool) → (T b → s .«max_leaves» < length ((grown s x t) .entries)) → Owned (cond b (rebuilt s (grown s x t)) (grown s x t)) (cond b (map (λ c. rebuiltTo s (grown s x t) c) (snoc a (taker s x t))) (snoc a (taker s x t)))
+    go : (b : Bool) → (T b → s .«max_leaves» < length ((grown s x t) .entries))
+        → Owned (cond b (rebuilt s (grown s x t)) (grown s x t)) (cond b (map (λ c. rebuiltTo s (grown s x t) c) (snoc a (taker s x t))) (snoc a (taker s x t)))
     go false f = now
     go true f = rebuild-moves (big .1) (big .2) one (f tt) (snoc a (taker s x t)) now
 

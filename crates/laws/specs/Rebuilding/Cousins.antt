@@ -52,10 +52,12 @@ module _ {s : Settings} (t : Tree) {R : ℕ → ℕ} (g : Links s (nodeAt t) (le
   unfolding cousins
   cousins-far [] = tt
   cousins-far (n ∷ ns) =
-      every-append (FarPair (length (t .entries))) (cond (not (n .leaf) && allLeaves t (n .list)) (partners s t (beneath t (n .list)) (beneath t (n .list))) []) (cousins s t ns)
+      every-append (FarPair (length (t .entries))) (cond (not (n .leaf) && allLeaves t (n .list)) (partners s t (beneath t (n .list)) (beneath t (n .list)))
+      []) (cousins s t ns)
       (go (not (n .leaf)) (allLeaves t (n .list)) refl) (cousins-far ns)
     where
-      go : (b c : Bool) → allLeaves t (n .list) ≡ c → Every (FarPair (length (t .entries))) (cond (b && c) (partners s t (beneath t (n .list)) (beneath t (n .list))) [])
+      go : (b c : Bool) → allLeaves t (n .list) ≡ c
+          → Every (FarPair (length (t .entries))) (cond (b && c) (partners s t (beneath t (n .list)) (beneath t (n .list))) [])
       go false c e = tt
       go true false e = tt
       go true true e =
@@ -75,7 +77,10 @@ module _ {s : Settings} (t : Tree) {R : ℕ → ℕ} (g : Links s (nodeAt t) (le
       head = occurs-cons k m ks
 
       go : (k ≡ m) ⊎ (k ≢ m) → (0 < occurs k ks → 0 < occurs c (beneath t ks)) → 0 < occurs c (nodeAt t m .list ++ beneath t ks)
-      go (inl e) ih = let p = parts in let z : occurs c (nodeAt t k .list) ≡ occurs c (nodeAt t m .list) = ap (λ y. occurs c (nodeAt t y .list)) e in omega arith
+      go (inl e) ih =
+          let p = parts in
+          let z : occurs c (nodeAt t k .list) ≡ occurs c (nodeAt t m .list) = ap (λ y. occurs c (nodeAt t y .list)) e in
+          omega arith
       go (inr e) ih = let p = parts in let h = head in let z = is-other k m e in let w = ih (omega arith) in omega arith
 
   all-leaves : (ks : List ℕ) → ((k : ℕ) → 0 < occurs k ks → nodeAt t k .leaf ≡ true) → allLeaves t ks ≡ true
@@ -89,7 +94,8 @@ module _ {s : Settings} (t : Tree) {R : ℕ → ℕ} (g : Links s (nodeAt t) (le
   unfolding cousins
   cousins-at [] i l f a p = absurd (not-suc-le-zero l)
   cousins-at (n ∷ ns) zero l f a p =
-      let q : length (cond (not (n .leaf) && allLeaves t (n .list)) (partners s t (beneath t (n .list)) (beneath t (n .list))) []) ≡ length (partners s t (beneath t (n .list)) (beneath t (n .list))) =
+      let q : length (cond (not (n .leaf) && allLeaves t (n .list)) (partners s t (beneath t (n .list)) (beneath t (n .list))) [])
+      ≡ length (partners s t (beneath t (n .list)) (beneath t (n .list))) =
       ap (λ b. length (cond (not b && allLeaves t (n .list)) (partners s t (beneath t (n .list)) (beneath t (n .list))) [])) f
       ∙ ap (λ b. length (cond b (partners s t (beneath t (n .list)) (beneath t (n .list))) [])) a in
       let r = length-append (cond (not (n .leaf) && allLeaves t (n .list)) (partners s t (beneath t (n .list)) (beneath t (n .list))) []) (cousins s t ns) in
@@ -119,7 +125,8 @@ unfolding over
 zeros [] = refl
 zeros (x ∷ l) = let q = zeros l in omega arith
 
-module _ {s : Settings} (t : Tree) {R : ℕ → ℕ} (g : Links s (nodeAt t) (length (t .nodes)) (t .root) (length (t .entries)) R nil nil nil) (single : (k : ℕ) → k < length (t .nodes) → nodeAt t k .leaf ≡ true → length (nodeAt t k .list) ≤ 1) (two : 2 ≤ length (t .entries)) where
+module _ {s : Settings} (t : Tree) {R : ℕ → ℕ} (g : Links s (nodeAt t) (length (t .nodes)) (t .root) (length (t .entries)) R nil nil nil)
+    (single : (k : ℕ) → k < length (t .nodes) → nodeAt t k .leaf ≡ true → length (nodeAt t k .list) ≤ 1) (two : 2 ≤ length (t .entries)) where
   fr : Frame (nodeAt t) (length (t .nodes)) (t .root) (length (t .entries)) R
   fr = frame-of s (nodeAt t) (length (t .nodes)) (t .root) (length (t .entries)) R nil nil g
 
@@ -128,12 +135,15 @@ module _ {s : Settings} (t : Tree) {R : ℕ → ℕ} (g : Links s (nodeAt t) (le
     where
       go : (nodeAt t k .leaf ≡ true) ⊎ (nodeAt t k .leaf ≡ false) → cond (nodeAt t k .leaf) (over (λ _. 1) (nodeAt t k .list)) 0 ≤ is 0 (R k)
       go (inl f) =
-          let a : cond (nodeAt t k .leaf) (over (λ _. 1) (nodeAt t k .list)) 0 ≡ over (λ _. 1) (nodeAt t k .list) = ap (λ b. cond b (over (λ _. 1) (nodeAt t k .list)) 0) f in
+          let a : cond (nodeAt t k .leaf) (over (λ _. 1) (nodeAt t k .list)) 0 ≡ over (λ _. 1) (nodeAt t k .list) =
+          ap (λ b. cond b (over (λ _. 1) (nodeAt t k .list)) 0) f in
           let b = length-over (nodeAt t k .list) in
           let c = single k l f in
           let d = is-same 0 (R k) (sym (g .ground k l f)) in
           omega arith
-      go (inr f) = let a : cond (nodeAt t k .leaf) (over (λ _. 1) (nodeAt t k .list)) 0 ≡ 0 = ap (λ b. cond b (over (λ _. 1) (nodeAt t k .list)) 0) f in omega arith
+      go (inr f) =
+          let a : cond (nodeAt t k .leaf) (over (λ _. 1) (nodeAt t k .list)) 0 ≡ 0 = ap (λ b. cond b (over (λ _. 1) (nodeAt t k .list)) 0) f in
+          omega arith
 
   many : 2 ≤ sumTo (λ k. is 0 (R k)) (length (t .nodes))
   many =
@@ -146,16 +156,19 @@ module _ {s : Settings} (t : Tree) {R : ℕ → ℕ} (g : Links s (nodeAt t) (le
   more : sumTo (λ k. is 1 (R k)) (length (t .nodes)) < sumTo (λ k. cond (nodeAt t k .leaf) 0 (over (λ m. is 0 (R m)) (nodeAt t k .list))) (length (t .nodes))
   more = go (same? (R (t .root)) 0)
     where
-      a : is 0 (R (t .root)) + sumTo (λ k. cond (nodeAt t k .leaf) 0 (over (λ m. is 0 (R m)) (nodeAt t k .list))) (length (t .nodes)) ≡ sumTo (λ k. is 0 (R k)) (length (t .nodes))
+      a : is 0 (R (t .root)) + sumTo (λ k. cond (nodeAt t k .leaf) 0 (over (λ m. is 0 (R m)) (nodeAt t k .list))) (length (t .nodes))
+          ≡ sumTo (λ k. is 0 (R k)) (length (t .nodes))
       a = inners-sum fr (λ m. is 0 (R m))
 
       gr : sumTo (λ k. is 1 (R k)) (length (t .nodes)) + 0 ≤ sumTo (λ k. is 0 (R k)) (length (t .nodes)) - 1
       gr = unfold rankCount in g .grows 0
 
-      go : (R (t .root) ≡ 0) ⊎ (R (t .root) ≢ 0) → sumTo (λ k. is 1 (R k)) (length (t .nodes)) < sumTo (λ k. cond (nodeAt t k .leaf) 0 (over (λ m. is 0 (R m)) (nodeAt t k .list))) (length (t .nodes))
+      go : (R (t .root) ≡ 0) ⊎ (R (t .root) ≢ 0)
+          → sumTo (λ k. is 1 (R k)) (length (t .nodes)) < sumTo (λ k. cond (nodeAt t k .leaf) 0 (over (λ m. is 0 (R m)) (nodeAt t k .list))) (length (t .nodes))
       go (inl e) =
           let b = is-same 0 (R (t .root)) (sym e) in
-          let c : sumTo (λ k. is 1 (R k)) (length (t .nodes)) ≡ 0 = sum-none (λ k. is 1 (R k)) (length (t .nodes)) (λ k q. is-other 1 (R k) (λ z. clash k z (g .top k q))) in
+          let c : sumTo (λ k. is 1 (R k)) (length (t .nodes)) ≡ 0 =
+          sum-none (λ k. is 1 (R k)) (length (t .nodes)) (λ k q. is-other 1 (R k) (λ z. clash k z (g .top k q))) in
           let x = a in let y = many in
           omega arith
         where
@@ -170,9 +183,13 @@ module _ {s : Settings} (t : Tree) {R : ℕ → ℕ} (g : Links s (nodeAt t) (le
       let q = go (r .0) (r .1) (r .2) (leaf? (nodeAt t (r .0))) in
       (r .0, r .1, q .0, q .1, q .2)
     where
-      go : (k : ℕ) → k < length (t .nodes) → is 1 (R k) < cond (nodeAt t k .leaf) 0 (over (λ m. is 0 (R m)) (nodeAt t k .list)) → (nodeAt t k .leaf ≡ true) ⊎ (nodeAt t k .leaf ≡ false)
+      go : (k : ℕ) → k < length (t .nodes) → is 1 (R k) < cond (nodeAt t k .leaf) 0 (over (λ m. is 0 (R m)) (nodeAt t k .list))
+          → (nodeAt t k .leaf ≡ true) ⊎ (nodeAt t k .leaf ≡ false)
           → (nodeAt t k .leaf ≡ false) × (2 ≤ length (nodeAt t k .list)) × (R k ≡ 1)
-      go k l h (inl f) = let a : cond (nodeAt t k .leaf) 0 (over (λ m. is 0 (R m)) (nodeAt t k .list)) ≡ 0 = ap (λ b. cond b 0 (over (λ m. is 0 (R m)) (nodeAt t k .list))) f in absurd (omega arith)
+      go k l h (inl f) =
+          let a : cond (nodeAt t k .leaf) 0 (over (λ m. is 0 (R m)) (nodeAt t k .list)) ≡ 0 =
+          ap (λ b. cond b 0 (over (λ m. is 0 (R m)) (nodeAt t k .list))) f in
+          absurd (omega arith)
       go k l h (inr f) = by (same? (R k) 1)
         where
           opened : cond (nodeAt t k .leaf) 0 (over (λ m. is 0 (R m)) (nodeAt t k .list)) ≡ over (λ m. is 0 (R m)) (nodeAt t k .list)
@@ -180,13 +197,15 @@ module _ {s : Settings} (t : Tree) {R : ℕ → ℕ} (g : Links s (nodeAt t) (le
 
           by : (R k ≡ 1) ⊎ (R k ≢ 1) → (nodeAt t k .leaf ≡ false) × (2 ≤ length (nodeAt t k .list)) × (R k ≡ 1)
           by (inl e) =
-              let a : over (λ m. is 0 (R m)) (nodeAt t k .list) ≡ over (λ _. 1) (nodeAt t k .list) = over-same (λ m. is 0 (R m)) (λ _. 1) (nodeAt t k .list) (λ c o. is-same 0 (R c) (let q = g .kid k c l f o .1 in omega arith)) in
+              let a : over (λ m. is 0 (R m)) (nodeAt t k .list) ≡ over (λ _. 1) (nodeAt t k .list) =
+              over-same (λ m. is 0 (R m)) (λ _. 1) (nodeAt t k .list) (λ c o. is-same 0 (R c) (let q = g .kid k c l f o .1 in omega arith)) in
               let b = length-over (nodeAt t k .list) in
               let c = is-same 1 (R k) (sym e) in
               let d = opened in
               (f, omega arith, e)
           by (inr e) =
-              let a : over (λ m. is 0 (R m)) (nodeAt t k .list) ≡ over (λ _. 0) (nodeAt t k .list) = over-same (λ m. is 0 (R m)) (λ _. 0) (nodeAt t k .list) (λ c o. is-other 0 (R c) (λ z. e (g .kid k c l f o .1 ∙ ap suc (sym z)))) in
+              let a : over (λ m. is 0 (R m)) (nodeAt t k .list) ≡ over (λ _. 0) (nodeAt t k .list) =
+              over-same (λ m. is 0 (R m)) (λ _. 0) (nodeAt t k .list) (λ c o. is-other 0 (R c) (λ z. e (g .kid k c l f o .1 ∙ ap suc (sym z)))) in
               let b = zeros (nodeAt t k .list) in
               let d = opened in
               absurd (omega arith)
@@ -199,18 +218,22 @@ module _ {s : Settings} (t : Tree) {R : ℕ → ℕ} (g : Links s (nodeAt t) (le
       let e : R k ≡ 1 = two-leaves .4 in
       go k l f e (nodeAt t k .list) refl (two-leaves .3)
     where
-      leaf-kid : (k : ℕ) → k < length (t .nodes) → nodeAt t k .leaf ≡ false → R k ≡ 1 → (c : ℕ) → 0 < occurs c (nodeAt t k .list) → (c < length (t .nodes)) × (nodeAt t c .leaf ≡ true)
+      leaf-kid : (k : ℕ) → k < length (t .nodes) → nodeAt t k .leaf ≡ false → R k ≡ 1 → (c : ℕ) → 0 < occurs c (nodeAt t k .list)
+          → (c < length (t .nodes)) × (nodeAt t c .leaf ≡ true)
       leaf-kid k l f e c o =
           let q = kid-in g k c l f o in
           let r = g .kid k c l f o .1 in
           (q .0, rank-zero g c (q .0) (omega arith))
 
-      go : (k : ℕ) → k < length (t .nodes) → nodeAt t k .leaf ≡ false → R k ≡ 1 → (ks : List ℕ) → nodeAt t k .list ≡ ks → 2 ≤ length (nodeAt t k .list) → 0 < length (cousins s t (t .nodes))
+      go : (k : ℕ) → k < length (t .nodes) → nodeAt t k .leaf ≡ false → R k ≡ 1 → (ks : List ℕ) → nodeAt t k .list ≡ ks → 2 ≤ length (nodeAt t k .list)
+          → 0 < length (cousins s t (t .nodes))
       go k l f e [] q b = let z : length (nodeAt t k .list) ≡ 0 = ap (λ z. length z) q in absurd (omega arith)
       go k l f e (x ∷ []) q b = let z : length (nodeAt t k .list) ≡ 1 = ap (λ z. length z) q in absurd (omega arith)
       go k l f e (x ∷ y ∷ r) q b =
-          let ox : occurs x (nodeAt t k .list) ≡ is x x + (is x y + occurs x r) = ap (λ z. occurs x z) q ∙ occurs-cons x x (y ∷ r) ∙ ap (λ z. is x x + z) (occurs-cons x y r) in
-          let oy : occurs y (nodeAt t k .list) ≡ is y x + (is y y + occurs y r) = ap (λ z. occurs y z) q ∙ occurs-cons y x (y ∷ r) ∙ ap (λ z. is y x + z) (occurs-cons y y r) in
+          let ox : occurs x (nodeAt t k .list) ≡ is x x + (is x y + occurs x r) =
+          ap (λ z. occurs x z) q ∙ occurs-cons x x (y ∷ r) ∙ ap (λ z. is x x + z) (occurs-cons x y r) in
+          let oy : occurs y (nodeAt t k .list) ≡ is y x + (is y y + occurs y r) =
+          ap (λ z. occurs y z) q ∙ occurs-cons y x (y ∷ r) ∙ ap (λ z. is y x + z) (occurs-cons y y r) in
           let sx = is-same x x refl in
           let sy = is-same y y refl in
           let px : 0 < occurs x (nodeAt t k .list) = omega arith in
@@ -224,10 +247,12 @@ module _ {s : Settings} (t : Tree) {R : ℕ → ℕ} (g : Links s (nodeAt t) (le
           at-k k l f (all-leaves t g (nodeAt t k .list) (λ m o. leaf-kid k l f e m o .1))
           (group-some s t (beneath t (nodeAt t k .list)) (a .0) (c .0)
           (beneath-in t g x (a .0) (nodeAt t k .list) px (a .1)) (beneath-in t g y (c .0) (nodeAt t k .list) py (c .1))
-          (λ w. d (held-one s (nodeAt t) (length (t .nodes)) (t .root) (length (t .entries)) R nil nil nil g x y (a .0) (lx .0) (ly .0) (lx .1) (ly .1) (a .1) (subst (λ z. 0 < occurs z (nodeAt t y .list)) (sym w) (c .1)))))
+          (λ w. d (held-one s (nodeAt t) (length (t .nodes)) (t .root) (length (t .entries)) R nil nil nil g x y (a .0) (lx .0) (ly .0) (lx .1) (ly .1) (a .1)
+          (subst (λ z. 0 < occurs z (nodeAt t y .list)) (sym w) (c .1)))))
         where
           differ : x ≡ y → occurs x (nodeAt t k .list) ≡ 1 → occurs x (nodeAt t k .list) ≡ is x x + (is x y + occurs x r) → is x x ≡ 1 → ⊥
           differ w a b c = let z = is-same x y w in omega arith
 
-          at-k : (k : ℕ) → k < length (t .nodes) → nodeAt t k .leaf ≡ false → allLeaves t (nodeAt t k .list) ≡ true → 0 < length (partners s t (beneath t (nodeAt t k .list)) (beneath t (nodeAt t k .list))) → 0 < length (cousins s t (t .nodes))
+          at-k : (k : ℕ) → k < length (t .nodes) → nodeAt t k .leaf ≡ false → allLeaves t (nodeAt t k .list) ≡ true
+              → 0 < length (partners s t (beneath t (nodeAt t k .list)) (beneath t (nodeAt t k .list))) → 0 < length (cousins s t (t .nodes))
           at-k k l f a p = unfold nodeAt in cousins-at t g (t .nodes) k l f a p

@@ -11,7 +11,7 @@ use Rattle.binary64.specs.Whole.{most}
 use Rattle.feature.specs.Summaries.{blank}
 use Rattle.head.specs.declared.Settings.{Settings}
 use Rattle.rules.specs.Lists.{countUp, occurs}
-use Rattle.rules.specs.Tree.{Node, Tree, nodeAt, entryAt, blankNode, withNodes, withEntries, listing, cap}
+use Rattle.rules.specs.Tree.{Tree, nodeAt, entryAt, blankNode, withNodes, withEntries, listing, cap}
 use Rattle.rules.specs.Rebuild.{renumber, keepNumbers, pruned, dropped}
 use Rattle.rules.specs.Check.{rowsIn}
 use Rattle.laws.specs.Invariant.Weights.{IsExact}
@@ -29,37 +29,62 @@ unfolding over
 over-le v w [] h = omega arith
 over-le v w (c ∷ l) h = let a = over-le v w l h in let b = h c in omega arith
 
-module _ {s : Settings} (u : Tree) (bs : List Bool) {R : ℕ → ℕ} (total : ℕ) (g : Links s (nodeAt u) (length (u .nodes)) (u .root) (length (u .entries)) R nil nil nil) (len : length bs ≡ length (u .entries)) (live : (c : ℕ) → getD bs c false ≡ true → IsExact (entryAt u c) × (1 ≤ entryWeight u c)) (sums : sumTo (alive bs (entryWeight u)) (length (u .entries)) ≡ total) where
-  B : ℕ → Node
-  B = nodeAt (dropped bs u)
+flag-le : (bs : List Bool) (c : ℕ) → alive bs (λ _. 1) c ≤ 1
+flag-le bs c = go (flag? bs c)
+  where
+    go : (getD bs c false ≡ true) ⊎ (getD bs c false ≡ false) → alive bs (λ _. 1) c ≤ 1
+    go (inl e) = let a = alive-up bs (λ _. 1) c e in omega arith
+    go (inr e) = let a = alive-down bs (λ _. 1) c e in omega arith
 
-  node-is : (k : ℕ) → nodeAt (dropped bs u) k ≡ pruned bs (nodeAt u k)
-  unfolding dropped withEntries withNodes nodeAt pruned listing keepNumbers filterMap blankNode
-  node-is k = List·getD-map (pruned bs) (u .nodes) k blankNode
+-- ---- dropping lengthens no list
 
+node-is : (bs : List Bool) (u : Tree) (k : ℕ) → nodeAt (dropped bs u) k ≡ pruned bs (nodeAt u k)
+unfolding dropped withEntries withNodes nodeAt pruned listing keepNumbers filterMap blankNode
+node-is bs u k = List·getD-map (pruned bs) (u .nodes) k blankNode
+
+pub dropped-leaf : (bs : List Bool) (u : Tree) (k : ℕ) → nodeAt (dropped bs u) k .leaf ≡ nodeAt u k .leaf
+unfolding pruned listing
+dropped-leaf bs u k = ap (λ m. m .leaf) (node-is bs u k)
+
+pub dropped-lists : (bs : List Bool) (u : Tree) (k : ℕ) → length (nodeAt (dropped bs u) k .list) ≤ length (nodeAt u k .list)
+unfolding pruned listing
+dropped-lists bs u k = subst (λ m. length (m .list) ≤ length (nodeAt u k .list)) (sym (node-is bs u k)) (go (nodeAt u k .leaf) (nodeAt u k .list))
+  where
+    go : (b : Bool) (l : List ℕ) → length (cond b (keepNumbers bs l) l) ≤ length l
+    go false l = omega arith
+    go true l =
+        let a = length-over (keepNumbers bs l) ∙ over-kept bs (λ _. 1) l in
+        let b = over-le (alive bs (λ _. 1)) (λ _. 1) l (flag-le bs) in
+        let c = length-over l in
+        omega arith
+
+pub dropped-nodes : (bs : List Bool) (u : Tree) → length ((dropped bs u) .nodes) ≡ length (u .nodes)
+unfolding dropped withEntries withNodes
+dropped-nodes bs u = length-map (u .nodes) (pruned bs)
+
+-- ---- what the others keep
+
+module _ {s : Settings} (u : Tree) (bs : List Bool) {R : ℕ → ℕ} (total : ℕ) (g : Links s (nodeAt u) (length (u .nodes)) (u .root) (length (u .entries)) R nil
+    nil nil) (len : length bs ≡ length (u .entries)) (live : (c : ℕ) → getD bs c false ≡ true → IsExact (entryAt u c) × (1 ≤ entryWeight u c))
+    (sums : sumTo (alive bs (entryWeight u)) (length (u .entries)) ≡ total) where
   pub leaf-is : (k : ℕ) → nodeAt (dropped bs u) k .leaf ≡ nodeAt u k .leaf
-  unfolding pruned listing
-  leaf-is k = ap (λ m. m .leaf) (node-is k)
+  leaf-is = dropped-leaf bs u
 
   parent-is : (k : ℕ) → nodeAt (dropped bs u) k .parent ≡ nodeAt u k .parent
   unfolding pruned listing
-  parent-is k = ap (λ m. m .parent) (node-is k)
+  parent-is k = ap (λ m. m .parent) (node-is bs u k)
 
   sum-is : (k : ℕ) → nodeAt (dropped bs u) k .summary ≡ nodeAt u k .summary
   unfolding pruned listing
-  sum-is k = ap (λ m. m .summary) (node-is k)
+  sum-is k = ap (λ m. m .summary) (node-is bs u k)
 
   kids-leaf : (k : ℕ) → nodeAt u k .leaf ≡ true → nodeAt (dropped bs u) k .list ≡ keepNumbers bs (nodeAt u k .list)
   unfolding pruned listing
-  kids-leaf k f = ap (λ m. m .list) (node-is k) ∙ ap (λ b. cond b (keepNumbers bs (nodeAt u k .list)) (nodeAt u k .list)) f
+  kids-leaf k f = ap (λ m. m .list) (node-is bs u k) ∙ ap (λ b. cond b (keepNumbers bs (nodeAt u k .list)) (nodeAt u k .list)) f
 
   kids-inner : (k : ℕ) → nodeAt u k .leaf ≡ false → nodeAt (dropped bs u) k .list ≡ nodeAt u k .list
   unfolding pruned listing
-  kids-inner k f = ap (λ m. m .list) (node-is k) ∙ ap (λ b. cond b (keepNumbers bs (nodeAt u k .list)) (nodeAt u k .list)) f
-
-  pub dropped-nodes : length ((dropped bs u) .nodes) ≡ length (u .nodes)
-  unfolding dropped withEntries withNodes
-  dropped-nodes = length-map (u .nodes) (pruned bs)
+  kids-inner k f = ap (λ m. m .list) (node-is bs u k) ∙ ap (λ b. cond b (keepNumbers bs (nodeAt u k .list)) (nodeAt u k .list)) f
 
   pub dropped-entries : length ((dropped bs u) .entries) ≡ countUp bs
   unfolding dropped withEntries withNodes
@@ -87,7 +112,8 @@ module _ {s : Settings} (u : Tree) (bs : List Bool) {R : ℕ → ℕ} (total : �
   fr : Frame (nodeAt u) (length (u .nodes)) (u .root) (length (u .entries)) R
   fr = frame-of s (nodeAt u) (length (u .nodes)) (u .root) (length (u .entries)) R nil nil g
 
-  kid′ : (i c : ℕ) → i < length (u .nodes) → nodeAt (dropped bs u) i .leaf ≡ false → 0 < occurs c (nodeAt (dropped bs u) i .list) → (nodeAt (dropped bs u) c .parent ≡ some i) × (R i ≡ suc (R c))
+  kid′ : (i c : ℕ) → i < length (u .nodes) → nodeAt (dropped bs u) i .leaf ≡ false → 0 < occurs c (nodeAt (dropped bs u) i .list)
+      → (nodeAt (dropped bs u) c .parent ≡ some i) × (R i ≡ suc (R c))
   kid′ i c l f o =
       let f′ : nodeAt u i .leaf ≡ false = sym (leaf-is i) ∙ f in
       let r = g .kid i c l f′ (subst (λ z. 0 < occurs c z) (kids-inner i f′) o) in
@@ -103,15 +129,19 @@ module _ {s : Settings} (u : Tree) (bs : List Bool) {R : ℕ → ℕ} (total : �
   held′ : (c k : ℕ) → held (nodeAt (dropped bs u) k) c ≡ cond (nodeAt u k .leaf) (over (alive bs (λ i. is c (renumber bs i))) (nodeAt u k .list)) 0
   held′ c k = go (leaf? (nodeAt u k))
     where
-      go : (nodeAt u k .leaf ≡ true) ⊎ (nodeAt u k .leaf ≡ false) → held (nodeAt (dropped bs u) k) c ≡ cond (nodeAt u k .leaf) (over (alive bs (λ i. is c (renumber bs i))) (nodeAt u k .list)) 0
+      go : (nodeAt u k .leaf ≡ true) ⊎ (nodeAt u k .leaf ≡ false)
+          → held (nodeAt (dropped bs u) k) c ≡ cond (nodeAt u k .leaf) (over (alive bs (λ i. is c (renumber bs i))) (nodeAt u k .list)) 0
       go (inl f) =
-          held-yes (nodeAt (dropped bs u) k) c (leaf-is k ∙ f) ∙ ap (λ z. occurs c z) (kids-leaf k f) ∙ occurs-over c (keepNumbers bs (nodeAt u k .list)) ∙ over-kept bs (is c) (nodeAt u k .list)
+          held-yes (nodeAt (dropped bs u) k) c (leaf-is k ∙ f) ∙ ap (λ z. occurs c z) (kids-leaf k f) ∙ occurs-over c (keepNumbers bs (nodeAt u k .list))
+          ∙ over-kept bs (is c) (nodeAt u k .list)
           ∙ ap (λ b. cond b (over (alive bs (λ i. is c (renumber bs i))) (nodeAt u k .list)) 0) (sym f)
-      go (inr f) = held-no (nodeAt (dropped bs u) k) c (leaf-is k ∙ f) ∙ ap (λ b. cond b (over (alive bs (λ i. is c (renumber bs i))) (nodeAt u k .list)) 0) (sym f)
+      go (inr f) =
+          held-no (nodeAt (dropped bs u) k) c (leaf-is k ∙ f) ∙ ap (λ b. cond b (over (alive bs (λ i. is c (renumber bs i))) (nodeAt u k .list)) 0) (sym f)
 
   entries′ : (c : ℕ) → sumTo (λ k. held (nodeAt (dropped bs u) k) c) (length (u .nodes)) ≡ below c (countUp bs)
   entries′ c =
-      sum-same (λ k. cond (nodeAt u k .leaf) (over (alive bs (λ i. is c (renumber bs i))) (nodeAt u k .list)) 0) (λ k. held (nodeAt (dropped bs u) k) c) (length (u .nodes)) (λ k q. held′ c k)
+      sum-same (λ k. cond (nodeAt u k .leaf) (over (alive bs (λ i. is c (renumber bs i))) (nodeAt u k .list)) 0) (λ k. held (nodeAt (dropped bs u) k) c)
+      (length (u .nodes)) (λ k q. held′ c k)
       ∙ leaves-sum fr (alive bs (λ i. is c (renumber bs i)))
       ∙ ap (λ m. sumTo (alive bs (λ i. is c (renumber bs i))) m) (sym len)
       ∙ renumber-sum bs (is c) ∙ is-sum c (countUp bs)
@@ -132,7 +162,7 @@ module _ {s : Settings} (u : Tree) (bs : List Bool) {R : ℕ → ℕ} (total : �
   pub drop-frame : Frame (nodeAt (dropped bs u)) (length ((dropped bs u) .nodes)) ((dropped bs u) .root) (length ((dropped bs u) .entries)) R
   drop-frame =
       subst (λ m. Frame (nodeAt (dropped bs u)) (length ((dropped bs u) .nodes)) ((dropped bs u) .root) m R) (sym dropped-entries)
-      (subst (λ m. Frame (nodeAt (dropped bs u)) m ((dropped bs u) .root) (countUp bs) R) (sym dropped-nodes)
+      (subst (λ m. Frame (nodeAt (dropped bs u)) m ((dropped bs u) .root) (countUp bs) R) (sym (dropped-nodes bs u))
       (subst (λ r. Frame (nodeAt (dropped bs u)) (length (u .nodes)) r (countUp bs) R) (sym root-is) frame₀))
 
   pub drop-rows : (k : ℕ) → k < length ((dropped bs u) .entries) → IsExact (entryAt (dropped bs u) k) × (1 ≤ entryWeight (dropped bs u) k)
@@ -158,36 +188,22 @@ module _ {s : Settings} (u : Tree) (bs : List Bool) {R : ℕ → ℕ} (total : �
   -- ---- where every leaf keeps an entry
 
   module _ (stay : (k : ℕ) → k < length (u .nodes) → nodeAt u k .leaf ≡ true → 0 < over (alive bs (λ _. 1)) (nodeAt u k .list)) where
-    flag-le : (c : ℕ) → alive bs (λ _. 1) c ≤ 1
-    flag-le c = go (flag? bs c)
-      where
-        go : (getD bs c false ≡ true) ⊎ (getD bs c false ≡ false) → alive bs (λ _. 1) c ≤ 1
-        go (inl e) = let a = alive-up bs (λ _. 1) c e in omega arith
-        go (inr e) = let a = alive-down bs (λ _. 1) c e in omega arith
-
     caps′ : (k : ℕ) → k < length (u .nodes) → length (nodeAt (dropped bs u) k .list) ≤ cap s (nodeAt (dropped bs u) k .leaf) + 0
-    caps′ k l = go (leaf? (nodeAt u k))
-      where
-        go : (nodeAt u k .leaf ≡ true) ⊎ (nodeAt u k .leaf ≡ false) → length (nodeAt (dropped bs u) k .list) ≤ cap s (nodeAt (dropped bs u) k .leaf) + 0
-        go (inl f) =
-            let a = size-leaf k f in
-            let b = over-le (alive bs (λ _. 1)) (λ _. 1) (nodeAt u k .list) flag-le in
-            let d = length-over (nodeAt u k .list) in
-            let e = g .caps k l in
-            let h : cap s (nodeAt (dropped bs u) k .leaf) ≡ cap s (nodeAt u k .leaf) = ap (λ z. cap s z) (leaf-is k) in
-            omega arith
-        go (inr f) =
-            let a : length (nodeAt (dropped bs u) k .list) ≡ length (nodeAt u k .list) = ap (λ z. length z) (kids-inner k f) in
-            let e = g .caps k l in
-            let h : cap s (nodeAt (dropped bs u) k .leaf) ≡ cap s (nodeAt u k .leaf) = ap (λ z. cap s z) (leaf-is k) in
-            omega arith
+    caps′ k l =
+        let a = dropped-lists bs u k in
+        let e = g .caps k l in
+        let h : cap s (nodeAt (dropped bs u) k .leaf) ≡ cap s (nodeAt u k .leaf) = ap (λ z. cap s z) (leaf-is k) in
+        omega arith
 
     filled′ : (k : ℕ) → k < length (u .nodes) → 0 < length (nodeAt (dropped bs u) k .list)
     filled′ k l = go (leaf? (nodeAt u k))
       where
         go : (nodeAt u k .leaf ≡ true) ⊎ (nodeAt u k .leaf ≡ false) → 0 < length (nodeAt (dropped bs u) k .list)
         go (inl f) = let a = size-leaf k f in let b = stay k l f in omega arith
-        go (inr f) = let a : length (nodeAt (dropped bs u) k .list) ≡ length (nodeAt u k .list) = ap (λ z. length z) (kids-inner k f) in let b = g .filled k l in omega arith
+        go (inr f) =
+            let a : length (nodeAt (dropped bs u) k .list) ≡ length (nodeAt u k .list) = ap (λ z. length z) (kids-inner k f) in
+            let b = g .filled k l in
+            omega arith
 
     links₀ : Links s (nodeAt (dropped bs u)) (length (u .nodes)) (u .root) (countUp bs) R nil nil nil
     links₀ = record {
@@ -206,7 +222,7 @@ module _ {s : Settings} (u : Tree) (bs : List Bool) {R : ℕ → ℕ} (total : �
     pub drop-links : Links s (nodeAt (dropped bs u)) (length ((dropped bs u) .nodes)) ((dropped bs u) .root) (length ((dropped bs u) .entries)) R nil nil nil
     drop-links =
         subst (λ m. Links s (nodeAt (dropped bs u)) (length ((dropped bs u) .nodes)) ((dropped bs u) .root) m R nil nil nil) (sym dropped-entries)
-        (subst (λ m. Links s (nodeAt (dropped bs u)) m ((dropped bs u) .root) (countUp bs) R nil nil nil) (sym dropped-nodes)
+        (subst (λ m. Links s (nodeAt (dropped bs u)) m ((dropped bs u) .root) (countUp bs) R nil nil nil) (sym (dropped-nodes bs u))
         (subst (λ r. Links s (nodeAt (dropped bs u)) (length (u .nodes)) r (countUp bs) R nil nil nil) (sym root-is) links₀))
 
     -- ---- and its weight
@@ -219,17 +235,22 @@ module _ {s : Settings} (u : Tree) (bs : List Bool) {R : ℕ → ℕ} (total : �
       unfolding nodeWeight
       wt-is k = ap (λ m. rowsIn m) (sum-is k)
 
-      own′ : (k : ℕ) → k < length (u .nodes) → nodeWeight (dropped bs u) k ≡ own (nodeAt (dropped bs u) k) (entryWeight (dropped bs u)) (nodeWeight (dropped bs u))
+      own′ : (k : ℕ) → k < length (u .nodes) → nodeWeight (dropped bs u) k
+          ≡ own (nodeAt (dropped bs u) k) (entryWeight (dropped bs u)) (nodeWeight (dropped bs u))
       own′ k l = go (leaf? (nodeAt u k))
         where
-          go : (nodeAt u k .leaf ≡ true) ⊎ (nodeAt u k .leaf ≡ false) → nodeWeight (dropped bs u) k ≡ own (nodeAt (dropped bs u) k) (entryWeight (dropped bs u)) (nodeWeight (dropped bs u))
+          go : (nodeAt u k .leaf ≡ true) ⊎ (nodeAt u k .leaf ≡ false)
+              → nodeWeight (dropped bs u) k ≡ own (nodeAt (dropped bs u) k) (entryWeight (dropped bs u)) (nodeWeight (dropped bs u))
           go (inl f) =
               wt-is k ∙ leaves k l f
-              ∙ sym (own-leaf (nodeAt (dropped bs u) k) (entryWeight (dropped bs u)) (nodeWeight (dropped bs u)) (leaf-is k ∙ f) ∙ ap (λ z. over (entryWeight (dropped bs u)) z) (kids-leaf k f)
-              ∙ over-kept bs (entryWeight (dropped bs u)) (nodeAt u k .list) ∙ over-same (alive bs (λ c. entryWeight (dropped bs u) (renumber bs c))) (alive bs (entryWeight u)) (nodeAt u k .list) (λ c o. alive-same c))
+              ∙ sym (own-leaf (nodeAt (dropped bs u) k) (entryWeight (dropped bs u)) (nodeWeight (dropped bs u)) (leaf-is k ∙ f)
+              ∙ ap (λ z. over (entryWeight (dropped bs u)) z) (kids-leaf k f)
+              ∙ over-kept bs (entryWeight (dropped bs u)) (nodeAt u k .list) ∙ over-same (alive bs (λ c. entryWeight (dropped bs u) (renumber bs c)))
+              (alive bs (entryWeight u)) (nodeAt u k .list) (λ c o. alive-same c))
           go (inr f) =
               wt-is k ∙ inners k l f
-              ∙ sym (own-inner (nodeAt (dropped bs u) k) (entryWeight (dropped bs u)) (nodeWeight (dropped bs u)) (leaf-is k ∙ f) ∙ ap (λ z. over (nodeWeight (dropped bs u)) z) (kids-inner k f)
+              ∙ sym (own-inner (nodeAt (dropped bs u) k) (entryWeight (dropped bs u)) (nodeWeight (dropped bs u)) (leaf-is k ∙ f)
+              ∙ ap (λ z. over (nodeWeight (dropped bs u)) z) (kids-inner k f)
               ∙ over-same (nodeWeight (dropped bs u)) (nodeWeight u) (nodeAt u k .list) (λ c o. wt-is c))
 
       pub drop-whole : Whole s (dropped bs u) total
@@ -238,14 +259,14 @@ module _ {s : Settings} (u : Tree) (bs : List Bool) {R : ℕ → ℕ} (total : �
         record {
           links = drop-links;
           exact = record {
-            at-node = (λ k q. subst (λ m. IsExact m) (sym (sum-is k)) (exact k (subst (λ n. k < n) dropped-nodes q)));
+            at-node = (λ k q. subst (λ m. IsExact m) (sym (sum-is k)) (exact k (subst (λ n. k < n) (dropped-nodes bs u) q)));
             at-entry = (λ k q. drop-rows k q .0);
             some-entry = (λ k q. drop-rows k q .1);
             small = small;
           };
           weighs = record {
-            sums = (λ k q. own′ k (subst (λ n. k < n) dropped-nodes q));
-            bound = (λ k q. subst (λ z. z ≤ total) (sym (wt-is k)) (bound k (subst (λ n. k < n) dropped-nodes q)));
+            sums = (λ k q. own′ k (subst (λ n. k < n) (dropped-nodes bs u) q));
+            bound = (λ k q. subst (λ z. z ≤ total) (sym (wt-is k)) (bound k (subst (λ n. k < n) (dropped-nodes bs u) q)));
             whole-tree = ap (λ r. nodeWeight (dropped bs u) r) root-is ∙ wt-is (u .root) ∙ at-top;
           };
         },

@@ -54,7 +54,8 @@ sum-move g h a b n d la lb ha hb ho =
     by k z (inl e) = ap h e ∙ hb ∙ sym (put-at g b 0) ∙ ap (λ y. put g b 0 y) (sym e)
     by k z (inr e) = ho k z e ∙ sym (put-off g b 0 k e)
 
-over-move : (g h : ℕ → ℕ) (a b : ℕ) (l : List ℕ) → a ≢ b → occurs a l ≡ 1 → occurs b l ≡ 1 → h a ≡ g a + g b → h b ≡ 0 → ((c : ℕ) → c ≢ a → c ≢ b → h c ≡ g c) → over h l ≡ over g l
+over-move : (g h : ℕ → ℕ) (a b : ℕ) (l : List ℕ) → a ≢ b → occurs a l ≡ 1 → occurs b l ≡ 1 → h a ≡ g a + g b → h b ≡ 0 → ((c : ℕ) → c ≢ a → c ≢ b → h c ≡ g c)
+    → over h l ≡ over g l
 over-move g h a b l d la lb ha hb ho =
     let p = over-once (put g b 0) g b l lb (λ k _ q. put-off g b 0 k q) in
     let q = over-once h (put g b 0) a l la (λ k _ z. by k z (same? k b)) in
@@ -74,13 +75,8 @@ and-right : (p q : Bool) → (p && q) ≡ true → q ≡ true
 and-right true q e = e
 and-right false q e = absurd (false≢true e)
 
-module _ {s : Settings} {n total : ℕ} (p : Pair) {m : Merging} (small : total ≤ most) (g : Merged s n total m) (d : p .one ≢ p .two) (l : bothAlive p (m .alive) ≡ true) where
-  a : ℕ
-  a = p .one
-
-  b : ℕ
-  b = p .two
-
+module _ {s : Settings} {n total : ℕ} (p : Pair) {m : Merging} (small : total ≤ most) (g : Merged s n total m) (d : p .one ≢ p .two)
+    (l : bothAlive p (m .alive) ≡ true) where
   up-a : getD (m .alive) (p .one) false ≡ true
   unfolding bothAlive
   up-a = and-left (getD (m .alive) (p .one) false) (getD (m .alive) (p .two) false) l
@@ -104,22 +100,22 @@ module _ {s : Settings} {n total : ℕ} (p : Pair) {m : Merging} (small : total 
   abbrev w′ : ℕ → ℕ
   w′ = mergeWeight s (mergeOne s p m)
 
-  flag-b : getD ((mergeOne s p m) .alive) (p .two) false ≡ false
+  flag-b : getD (m′ .alive) (p .two) false ≡ false
   unfolding mergeOne
   flag-b = getD-set-same (m .alive) (p .two) false false (up-in (m .alive) (p .two) up-b)
 
-  flag-o : (c : ℕ) → c ≢ p .two → getD ((mergeOne s p m) .alive) c false ≡ getD (m .alive) c false
+  flag-o : (c : ℕ) → c ≢ p .two → getD (m′ .alive) c false ≡ getD (m .alive) c false
   unfolding mergeOne
   flag-o c q = getD-set-other (m .alive) (p .two) c false false q
 
-  flag-a : getD ((mergeOne s p m) .alive) (p .one) false ≡ true
+  flag-a : getD (m′ .alive) (p .one) false ≡ true
   flag-a = flag-o (p .one) d ∙ up-a
 
-  entry-a : getD ((mergeOne s p m) .entries) (p .one) blank ≡ merge s (getD (m .entries) (p .one) blank) (getD (m .entries) (p .two) blank)
+  entry-a : getD (m′ .entries) (p .one) blank ≡ merge s (getD (m .entries) (p .one) blank) (getD (m .entries) (p .two) blank)
   unfolding mergeOne
   entry-a = change-at (λ e. merge s e (getD (m .entries) (p .two) blank)) (p .one) blank (m .entries) (subst (λ z. p .one < z) (sym (g .len-e)) in-a)
 
-  entry-o : (c : ℕ) → c ≢ p .one → getD ((mergeOne s p m) .entries) c blank ≡ getD (m .entries) c blank
+  entry-o : (c : ℕ) → c ≢ p .one → getD (m′ .entries) c blank ≡ getD (m .entries) c blank
   unfolding mergeOne
   entry-o c q = change-off (λ e. merge s e (getD (m .entries) (p .two) blank)) (p .one) c blank (m .entries) q
 
@@ -137,7 +133,9 @@ module _ {s : Settings} {n total : ℕ} (p : Pair) {m : Merging} (small : total 
       (g .live (p .one) up-a .0) (g .live (p .two) up-b .0) room
 
   w-a : w′ (p .one) ≡ w (p .one) + w (p .two)
-  w-a = unfold mergeWeight in (ap (λ e. rowsIn e) entry-a ∙ exact-count (merge s (getD (m .entries) (p .one) blank) (getD (m .entries) (p .two) blank)) (w (p .one) + w (p .two)) exact-a)
+  w-a =
+      unfold mergeWeight in (ap (λ e. rowsIn e) entry-a ∙ exact-count (merge s (getD (m .entries) (p .one) blank) (getD (m .entries) (p .two) blank))
+      (w (p .one) + w (p .two)) exact-a)
 
   w-o : (c : ℕ) → c ≢ p .one → w′ c ≡ w c
   unfolding mergeWeight
@@ -151,26 +149,28 @@ module _ {s : Settings} {n total : ℕ} (p : Pair) {m : Merging} (small : total 
 
   pub aw-a : aw′ (p .one) ≡ aw (p .one) + aw (p .two)
   aw-a =
-      alive-up ((mergeOne s p m) .alive) w′ (p .one) flag-a ∙ w-a
+      alive-up (m′ .alive) w′ (p .one) flag-a ∙ w-a
       ∙ ap (λ z. z + w (p .two)) (sym (alive-up (m .alive) w (p .one) up-a)) ∙ ap (λ z. aw (p .one) + z) (sym (alive-up (m .alive) w (p .two) up-b))
 
   pub aw-b : aw′ (p .two) ≡ 0
-  aw-b = alive-down ((mergeOne s p m) .alive) w′ (p .two) flag-b
+  aw-b = alive-down (m′ .alive) w′ (p .two) flag-b
 
   pub aw-o : (c : ℕ) → c ≢ p .one → c ≢ p .two → aw′ c ≡ aw c
   aw-o c x y = go (flag? (m .alive) c)
     where
       go : (getD (m .alive) c false ≡ true) ⊎ (getD (m .alive) c false ≡ false) → aw′ c ≡ aw c
-      go (inl e) = alive-up ((mergeOne s p m) .alive) w′ c (flag-o c y ∙ e) ∙ w-o c x ∙ sym (alive-up (m .alive) w c e)
-      go (inr e) = alive-down ((mergeOne s p m) .alive) w′ c (flag-o c y ∙ e) ∙ sym (alive-down (m .alive) w c e)
+      go (inl e) = alive-up (m′ .alive) w′ c (flag-o c y ∙ e) ∙ w-o c x ∙ sym (alive-up (m .alive) w c e)
+      go (inr e) = alive-down (m′ .alive) w′ c (flag-o c y ∙ e) ∙ sym (alive-down (m .alive) w c e)
 
-  live′ : (c : ℕ) → getD ((mergeOne s p m) .alive) c false ≡ true → IsExact (getD ((mergeOne s p m) .entries) c blank) × (1 ≤ w′ c)
+  live′ : (c : ℕ) → getD (m′ .alive) c false ≡ true → IsExact (getD (m′ .entries) c blank) × (1 ≤ w′ c)
   live′ c e = go (same? c (p .one)) (same? c (p .two))
     where
-      go : (c ≡ p .one) ⊎ (c ≢ p .one) → (c ≡ p .two) ⊎ (c ≢ p .two) → IsExact (getD ((mergeOne s p m) .entries) c blank) × (1 ≤ w′ c)
-      go x (inl y) = absurd (false≢true (sym flag-b ∙ ap (λ z. getD ((mergeOne s p m) .alive) z false) (sym y) ∙ e))
+      go : (c ≡ p .one) ⊎ (c ≢ p .one) → (c ≡ p .two) ⊎ (c ≢ p .two) → IsExact (getD (m′ .entries) c blank) × (1 ≤ w′ c)
+      go x (inl y) = absurd (false≢true (sym flag-b ∙ ap (λ z. getD (m′ .alive) z false) (sym y) ∙ e))
       go (inl x) (inr y) = (
-        subst (λ z. IsExact (getD ((mergeOne s p m) .entries) z blank)) (sym x) (subst (λ q. IsExact q) (sym entry-a) (exact-is (merge s (getD (m .entries) (p .one) blank) (getD (m .entries) (p .two) blank)) (w (p .one) + w (p .two)) exact-a)),
+        subst (λ z. IsExact (getD (m′ .entries) z blank)) (sym x)
+            (subst (λ q. IsExact q) (sym entry-a) (exact-is (merge s (getD (m .entries) (p .one) blank) (getD (m .entries) (p .two) blank))
+            (w (p .one) + w (p .two)) exact-a)),
         (let i : w′ c ≡ w (p .one) + w (p .two) = ap (λ z. w′ z) x ∙ w-a in let j = g .live (p .one) up-a .1 in omega arith),
       )
       go (inr x) (inr y) =
@@ -186,43 +186,58 @@ module _ {s : Settings} {n total : ℕ} (p : Pair) {m : Merging} (small : total 
     counted = counted′;
   }
     where
-      lens : (length ((mergeOne s p m) .entries) ≡ n) × (length ((mergeOne s p m) .alive) ≡ n)
-      lens = unfold mergeOne in (length-change (λ e. merge s e (getD (m .entries) (p .two) blank)) (p .one) (m .entries) ∙ g .len-e, length-set (m .alive) (p .two) false ∙ g .len-a)
+      lens : (length (m′ .entries) ≡ n) × (length (m′ .alive) ≡ n)
+      lens =
+          unfold mergeOne in (
+            length-change (λ e. merge s e (getD (m .entries) (p .two) blank)) (p .one) (m .entries)
+                ∙ g .len-e,
+            length-set (m .alive) (p .two) false ∙ g .len-a,
+          )
 
-      counted′ : (mergeOne s p m) .count + countUp ((mergeOne s p m) .alive) ≡ n
+      counted′ : m′ .count + countUp (m′ .alive) ≡ n
       counted′ = unfold mergeOne in (let i = count-down (m .alive) (p .two) up-b in let j = g .counted in omega arith)
 
   -- both in one leaf
-  module _ {t : Tree} {R : ℕ → ℕ} (links : Links s (nodeAt t) (length (t .nodes)) (t .root) (length (t .entries)) R nil nil nil) (near : Near s t m) (k₀ : ℕ) (l₀ : k₀ < length (t .nodes)) (f₀ : nodeAt t k₀ .leaf ≡ true) (o-a : 0 < occurs (p .one) (nodeAt t k₀ .list)) (o-b : 0 < occurs (p .two) (nodeAt t k₀ .list)) where
+  module _ {t : Tree} {R : ℕ → ℕ} (links : Links s (nodeAt t) (length (t .nodes)) (t .root) (length (t .entries)) R nil nil nil) (near : Near s t m) (k₀ : ℕ)
+      (l₀ : k₀ < length (t .nodes)) (f₀ : nodeAt t k₀ .leaf ≡ true) (o-a : 0 < occurs (p .one) (nodeAt t k₀ .list))
+      (o-b : 0 < occurs (p .two) (nodeAt t k₀ .list)) where
     held₁ : (c : ℕ) → 0 < occurs c (nodeAt t k₀ .list) → occurs c (nodeAt t k₀ .list) ≡ 1
     held₁ c o = held-in s (nodeAt t) (length (t .nodes)) (t .root) (length (t .entries)) R nil nil nil links k₀ c l₀ f₀ o .1
 
     elsewhere : (k : ℕ) → k < length (t .nodes) → nodeAt t k .leaf ≡ true → k ≢ k₀ → (c : ℕ) → 0 < occurs c (nodeAt t k .list) → (c ≢ p .one) × (c ≢ p .two)
     elsewhere k h f q c o = (
-      (λ e. q (held-one s (nodeAt t) (length (t .nodes)) (t .root) (length (t .entries)) R nil nil nil links k k₀ c h l₀ f f₀ o (subst (λ z. 0 < occurs z (nodeAt t k₀ .list)) (sym e) o-a))),
-      (λ e. q (held-one s (nodeAt t) (length (t .nodes)) (t .root) (length (t .entries)) R nil nil nil links k k₀ c h l₀ f f₀ o (subst (λ z. 0 < occurs z (nodeAt t k₀ .list)) (sym e) o-b))),
+      (λ e. q (held-one s (nodeAt t) (length (t .nodes)) (t .root) (length (t .entries)) R nil nil nil links k k₀ c h l₀ f f₀ o
+          (subst (λ z. 0 < occurs z (nodeAt t k₀ .list)) (sym e) o-a))),
+      (λ e. q (held-one s (nodeAt t) (length (t .nodes)) (t .root) (length (t .entries)) R nil nil nil links k k₀ c h l₀ f f₀ o
+          (subst (λ z. 0 < occurs z (nodeAt t k₀ .list)) (sym e) o-b))),
     )
 
-    flags : (c : ℕ) → c ≢ p .two → alive ((mergeOne s p m) .alive) (λ _. 1) c ≡ alive (m .alive) (λ _. 1) c
+    flags : (c : ℕ) → c ≢ p .two → alive (m′ .alive) (λ _. 1) c ≡ alive (m .alive) (λ _. 1) c
     flags c q = go (flag? (m .alive) c)
       where
-        go : (getD (m .alive) c false ≡ true) ⊎ (getD (m .alive) c false ≡ false) → alive ((mergeOne s p m) .alive) (λ _. 1) c ≡ alive (m .alive) (λ _. 1) c
-        go (inl e) = alive-up ((mergeOne s p m) .alive) (λ _. 1) c (flag-o c q ∙ e) ∙ sym (alive-up (m .alive) (λ _. 1) c e)
-        go (inr e) = alive-down ((mergeOne s p m) .alive) (λ _. 1) c (flag-o c q ∙ e) ∙ sym (alive-down (m .alive) (λ _. 1) c e)
+        go : (getD (m .alive) c false ≡ true) ⊎ (getD (m .alive) c false ≡ false) → alive (m′ .alive) (λ _. 1) c ≡ alive (m .alive) (λ _. 1) c
+        go (inl e) = alive-up (m′ .alive) (λ _. 1) c (flag-o c q ∙ e) ∙ sym (alive-up (m .alive) (λ _. 1) c e)
+        go (inr e) = alive-down (m′ .alive) (λ _. 1) c (flag-o c q ∙ e) ∙ sym (alive-down (m .alive) (λ _. 1) c e)
 
     pub near-one : Near s t (mergeOne s p m)
     near-one = record { leaves = (λ k h f. lv k h f (same? k k₀)); stay = (λ k h f. st k h f (same? k k₀)) }
       where
         lv : (k : ℕ) → k < length (t .nodes) → nodeAt t k .leaf ≡ true → (k ≡ k₀) ⊎ (k ≢ k₀) → nodeWeight t k ≡ over aw′ (nodeAt t k .list)
-        lv k h f (inl e) = near .leaves k h f ∙ sym (over-move aw aw′ (p .one) (p .two) (nodeAt t k .list) d (ap (λ z. occurs (p .one) (nodeAt t z .list)) e ∙ held₁ (p .one) o-a) (ap (λ z. occurs (p .two) (nodeAt t z .list)) e ∙ held₁ (p .two) o-b) aw-a aw-b aw-o)
+        lv k h f (inl e) =
+            near .leaves k h f ∙ sym (over-move aw aw′ (p .one) (p .two) (nodeAt t k .list) d (ap (λ z. occurs (p .one) (nodeAt t z .list)) e
+            ∙ held₁ (p .one) o-a) (ap (λ z. occurs (p .two) (nodeAt t z .list)) e ∙ held₁ (p .two) o-b) aw-a aw-b aw-o)
         lv k h f (inr e) = near .leaves k h f ∙ sym (over-same aw′ aw (nodeAt t k .list) (λ c o. let q = elsewhere k h f e c o in aw-o c (q .0) (q .1)))
 
-        st : (k : ℕ) → k < length (t .nodes) → nodeAt t k .leaf ≡ true → (k ≡ k₀) ⊎ (k ≢ k₀) → 0 < over (alive ((mergeOne s p m) .alive) (λ _. 1)) (nodeAt t k .list)
+        st : (k : ℕ) → k < length (t .nodes) → nodeAt t k .leaf ≡ true → (k ≡ k₀) ⊎ (k ≢ k₀)
+            → 0 < over (alive (m′ .alive) (λ _. 1)) (nodeAt t k .list)
         st k h f (inl e) =
-            let i = over-in (alive ((mergeOne s p m) .alive) (λ _. 1)) (p .one) (nodeAt t k .list) (subst (λ z. 0 < occurs (p .one) (nodeAt t z .list)) (sym e) o-a) in
-            let j = alive-up ((mergeOne s p m) .alive) (λ _. 1) (p .one) flag-a in
+            let i = over-in (alive (m′ .alive) (λ _. 1)) (p .one) (nodeAt t k .list) (subst (λ z. 0 < occurs (p .one) (nodeAt t z .list))
+            (sym e) o-a) in
+            let j = alive-up (m′ .alive) (λ _. 1) (p .one) flag-a in
             omega arith
-        st k h f (inr e) = subst (λ z. 0 < z) (sym (over-same (alive ((mergeOne s p m) .alive) (λ _. 1)) (alive (m .alive) (λ _. 1)) (nodeAt t k .list) (λ c o. flags c (elsewhere k h f e c o .1)))) (near .stay k h f)
+        st k h f (inr e) =
+            subst (λ z. 0 < z) (sym (over-same (alive (m′ .alive) (λ _. 1)) (alive (m .alive) (λ _. 1)) (nodeAt t k .list)
+            (λ c o. flags c (elsewhere k h f e c o .1)))) (near .stay k h f)
 
 -- ---- all merges
 
@@ -230,7 +245,9 @@ abbrev pub Every : (Pair → Type 0) → List Pair → Type 0
 Every P [] = Unit
 Every P (p ∷ ps) = P p × Every P ps
 
-pub merge-all : (s : Settings) (Q : Merging → Type 0) (P : Pair → Type 0) → ((p : Pair) (m : Merging) → P p → bothAlive p (m .alive) ≡ true → Q m → Q (mergeOne s p m))
+-- what one merge keeps, all merges keep
+pub merge-all : (s : Settings) (Q : Merging → Type 0) (P : Pair → Type 0)
+    → ((p : Pair) (m : Merging) → P p → bothAlive p (m .alive) ≡ true → Q m → Q (mergeOne s p m))
     → (k : ℕ) (ps : List Pair) (m : Merging) → Every P ps → Q m → Q (mergeAll s k ps m)
 unfolding mergeAll
 merge-all s Q P step zero ps m a q = q
@@ -252,7 +269,8 @@ merges-grow s c k ps m h = merge-all s (λ m. c ≤ m .count) (λ _. Unit) (λ p
     units (p ∷ ps) = (tt, units ps)
 
 -- the first pair lives: one merge at least
-pub merges-some : (s : Settings) (k : ℕ) (p : Pair) (ps : List Pair) (m : Merging) → 1 ≤ k → bothAlive p (m .alive) ≡ true → 1 ≤ (mergeAll s k (p ∷ ps) m) .count
+pub merges-some : (s : Settings) (k : ℕ) (p : Pair) (ps : List Pair) (m : Merging) → 1 ≤ k → bothAlive p (m .alive) ≡ true
+    → 1 ≤ (mergeAll s k (p ∷ ps) m) .count
 unfolding mergeAll
 merges-some s zero p ps m h e = absurd (omega arith)
 merges-some s (suc k) p ps m h e = go (bothAlive p (m .alive)) e

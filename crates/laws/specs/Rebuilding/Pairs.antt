@@ -44,7 +44,8 @@ unfolding sortIn
 in-length p [] = refl
 in-length p (q ∷ qs) = go (lt (q .cost) (p .cost)) (in-length p qs)
   where
-    go : (b : Bool) → length (sortIn p qs) ≡ suc (length qs) → length {A = Pair} (elim b [ true ↦ q ∷ sortIn p qs | false ↦ p ∷ q ∷ qs ]) ≡ suc (suc (length qs))
+    go : (b : Bool) → length (sortIn p qs) ≡ suc (length qs) → length {A = Pair} (elim b [ true ↦ q ∷ sortIn p qs | false ↦ p ∷ q ∷ qs ])
+        ≡ suc (suc (length qs))
     go true z = ap suc z
     go false z = refl
 
@@ -64,7 +65,8 @@ unfolding cheaper closer
 cheaper-has P none j c x y = y
 cheaper-has P (some (best k d)) j c x y = either (λ u. Has P (some u)) (lt c d) (best j c) (best k d) y x
 
-partner-has : (P : ℕ → Type 0) (f : ℕ → Float) (i : ℕ) (b : Option Best) (js : List ℕ) → ((j : ℕ) → 0 < occurs j js → j ≢ i → P j) → Has P b → Has P (partner f i b js)
+partner-has : (P : ℕ → Type 0) (f : ℕ → Float) (i : ℕ) (b : Option Best) (js : List ℕ) → ((j : ℕ) → 0 < occurs j js → j ≢ i → P j) → Has P b
+    → Has P (partner f i b js)
 unfolding partner
 partner-has P f i b [] h x = x
 partner-has P f i b (j ∷ js) h x =
@@ -76,7 +78,8 @@ partner-has P f i b (j ∷ js) h x =
     here : eqb j i ≡ false → P j
     here e = h j (occurs-here j js) (eq-test j i false e .1 refl)
 
-    go : (q : Bool) → eqb j i ≡ q → Has P (partner f i b js) → ((c : Option Best) → Has P c → Has P (partner f i c js)) → Has P (elim q [ true ↦ partner f i b js | false ↦ partner f i (cheaper b j (f j)) js ])
+    go : (q : Bool) → eqb j i ≡ q → Has P (partner f i b js) → ((c : Option Best) → Has P c → Has P (partner f i c js))
+        → Has P (elim q [ true ↦ partner f i b js | false ↦ partner f i (cheaper b j (f j)) js ])
     go true e y z = y
     go false e y z = z (cheaper b j (f j)) (cheaper-has P b j (f j) x (here e))
 
@@ -94,7 +97,8 @@ unfolding partners
 partners-of s t g [] h = tt
 partners-of s t g (i ∷ js) h =
     every-append (Of g) (pairOf i (partner (costOf s t i) i none g)) (partners s t g js)
-    (pair-has g i (partner (costOf s t i) i none g) (h i (occurs-here i js)) (partner-has (λ j. (0 < occurs j g) × (j ≢ i)) (costOf s t i) i none g (λ j o d. (o, d)) tt))
+    (pair-has g i (partner (costOf s t i) i none g) (h i (occurs-here i js)) (partner-has (λ j. (0 < occurs j g) × (j ≢ i)) (costOf s t i) i none g
+    (λ j o d. (o, d)) tt))
     (partners-of s t g js (λ c o. h c (occurs-later c i js o)))
 
 -- ---- there is a partner where there is another
@@ -109,7 +113,8 @@ partner-stays f i b [] h = h
 partner-stays f i none (j ∷ js) h = absurd h
 partner-stays f i (some b) (j ∷ js) h = go (eqb j i) (partner-stays f i (some b) js tt) (partner-stays f i (some (closer b j (f j))) js tt)
   where
-    go : (q : Bool) → Some (partner f i (some b) js) → Some (partner f i (some (closer b j (f j))) js) → Some (elim q [ true ↦ partner f i (some b) js | false ↦ partner f i (some (closer b j (f j))) js ])
+    go : (q : Bool) → Some (partner f i (some b) js) → Some (partner f i (some (closer b j (f j))) js)
+        → Some (elim q [ true ↦ partner f i (some b) js | false ↦ partner f i (some (closer b j (f j))) js ])
     go true x y = x
     go false x y = y
 
@@ -121,7 +126,9 @@ partner-some f i y (j ∷ js) d o = go (eqb j i) refl (λ q. partner-some f i y 
     go : (q : Bool) → eqb j i ≡ q → (0 < occurs y js → Some (partner f i none js)) → Some (partner f i (some (best j (f j))) js)
         → Some (elim q [ true ↦ partner f i none js | false ↦ partner f i (some (best j (f j))) js ])
     go false e x z = z
-    go true e x z = x (let p : occurs y (j ∷ js) ≡ is y j + occurs y js = occurs-cons y j js in let r = is-other y j (λ w. d (w ∙ eq-test j i true e .0 refl)) in omega arith)
+    go true e x z =
+        x (let p : occurs y (j ∷ js) ≡ is y j + occurs y js = occurs-cons y j js in let r = is-other y j (λ w. d (w ∙ eq-test j i true e .0 refl)) in
+        omega arith)
 
 pair-some : (i : ℕ) (b : Option Best) → Some b → 0 < length (pairOf i b)
 unfolding pairOf
@@ -154,7 +161,9 @@ group-some s t (z ∷ r) x y ox oy d = go (same? y z)
 -- ---- siblings
 
 abbrev pub NearPair : Settings → Tree → Pair → Type 0
-NearPair s t p = (k : ℕ) × (k < length (t .nodes)) × (nodeAt t k .leaf ≡ true) × (0 < occurs (p .one) (nodeAt t k .list)) × (0 < occurs (p .two) (nodeAt t k .list)) × (p .one ≢ p .two)
+NearPair s t p =
+    (k : ℕ) × (k < length (t .nodes)) × (nodeAt t k .leaf ≡ true) × (0 < occurs (p .one) (nodeAt t k .list)) × (0 < occurs (p .two) (nodeAt t k .list))
+    × (p .one ≢ p .two)
 
 -- ns: nodes of t
 abbrev Part : Settings → Tree → List Node → Type 0
@@ -186,19 +195,29 @@ siblings-near s t (n ∷ ns) h =
     go true e false = tt
     go true e true =
         every-map (Of (n .list)) (NearPair s t) (partners s t (n .list) (n .list))
-        (λ p o. (k .0, k .1, ap (λ m. m .leaf) (k .2) ∙ e, subst (λ m. 0 < occurs (p .one) (m .list)) (sym (k .2)) (o .0), subst (λ m. 0 < occurs (p .two) (m .list)) (sym (k .2)) (o .1), o .2))
+        (λ p o. (
+          k .0,
+          k .1,
+          ap (λ m. m .leaf) (k .2) ∙ e,
+          subst (λ m. 0 < occurs (p .one) (m .list)) (sym (k .2)) (o .0),
+          subst (λ m. 0 < occurs (p .two) (m .list)) (sym (k .2)) (o .1),
+          o .2,
+        ))
         (partners-of s t (n .list) (n .list) (λ c o. o))
 
 pub siblings-all : (s : Settings) (t : Tree) → Every (NearPair s t) (siblings s t (t .nodes))
 siblings-all s t = siblings-near s t (t .nodes) (part-all s t)
 
 -- no siblings: no leaf has two
-siblings-none : (s : Settings) (t : Tree) (R x y o : ℕ → ℕ) → Links s (nodeAt t) (length (t .nodes)) (t .root) (length (t .entries)) R x y o → (ns : List Node) → Part s t ns → length (siblings s t ns) ≡ 0
+siblings-none : (s : Settings) (t : Tree) (R x y o : ℕ → ℕ) → Links s (nodeAt t) (length (t .nodes)) (t .root) (length (t .entries)) R x y o
+    → (ns : List Node) → Part s t ns → length (siblings s t ns) ≡ 0
     → (i : ℕ) → i < length ns → getD ns i blankNode .leaf ≡ true → length (getD ns i blankNode .list) ≤ 1
 unfolding siblings
 siblings-none s t R x y o g [] h z i l f = absurd (not-suc-le-zero l)
 siblings-none s t R x y o g (n ∷ ns) h z (suc i) l f =
-    siblings-none s t R x y o g ns (part-rest s t n ns h) (let a = length-append (cond (n .leaf && ltb 1 (length (n .list))) (partners s t (n .list) (n .list)) []) (siblings s t ns) in omega arith) i (omega arith) f
+    siblings-none s t R x y o g ns (part-rest s t n ns h)
+    (let a = length-append (cond (n .leaf && ltb 1 (length (n .list))) (partners s t (n .list) (n .list)) []) (siblings s t ns) in omega arith) i
+    (omega arith) f
 siblings-none s t R x y o g (n ∷ ns) h z zero l f = by (ltb 1 (length (n .list))) (nltb→le 1 (length (n .list))) none-here
   where
     k : (k : ℕ) × (k < length (t .nodes)) × (nodeAt t k ≡ n)
@@ -221,7 +240,8 @@ siblings-none s t R x y o g (n ∷ ns) h z zero l f = by (ltb 1 (length (n .list
         twice : a ≡ b → ⊥
         twice w =
             let fk : nodeAt t (k .0) .leaf ≡ true = ap (λ m. m .leaf) (k .2) ∙ f in
-            let kk : occurs a (nodeAt t (k .0) .list) ≡ is a a + occurs a (b ∷ r) = ap (λ m. occurs a (m .list)) (k .2) ∙ ap (λ z. occurs a z) e ∙ occurs-cons a a (b ∷ r) in
+            let kk : occurs a (nodeAt t (k .0) .list) ≡ is a a + occurs a (b ∷ r) =
+            ap (λ m. occurs a (m .list)) (k .2) ∙ ap (λ z. occurs a z) e ∙ occurs-cons a a (b ∷ r) in
             let k1 = is-same a a refl in
             let k2 : occurs a (b ∷ r) ≡ is a b + occurs a r = occurs-cons a b r in
             let k3 = is-same a b w in
@@ -235,11 +255,13 @@ siblings-none s t R x y o g (n ∷ ns) h z zero l f = by (ltb 1 (length (n .list
         small : (1 < length (n .list)) ⊎ (length (n .list) ≤ 1) → length (n .list) ≤ 1
         small (inr q) = q
         small (inl q) =
-            let a : length (cond (n .leaf && true) (partners s t (n .list) (n .list)) []) ≡ length (partners s t (n .list) (n .list)) = ap (λ b. length (cond (b && true) (partners s t (n .list) (n .list)) [])) f in
+            let a : length (cond (n .leaf && true) (partners s t (n .list) (n .list)) []) ≡ length (partners s t (n .list) (n .list)) =
+            ap (λ b. length (cond (b && true) (partners s t (n .list) (n .list)) [])) f in
             let d = two-some (n .list) refl q in
             absurd (omega arith)
 
-pub leaves-single : (s : Settings) (t : Tree) (R x y o : ℕ → ℕ) → Links s (nodeAt t) (length (t .nodes)) (t .root) (length (t .entries)) R x y o → length (siblings s t (t .nodes)) ≡ 0
+pub leaves-single : (s : Settings) (t : Tree) (R x y o : ℕ → ℕ) → Links s (nodeAt t) (length (t .nodes)) (t .root) (length (t .entries)) R x y o
+    → length (siblings s t (t .nodes)) ≡ 0
     → (k : ℕ) → k < length (t .nodes) → nodeAt t k .leaf ≡ true → length (nodeAt t k .list) ≤ 1
 unfolding nodeAt
 leaves-single s t R x y o g z k l f = siblings-none s t R x y o g (t .nodes) (part-all s t) z k l f

@@ -40,6 +40,7 @@ counts-drop (suc h) (e ∷ l) c = counts-drop h l (c .1)
 halves-total : (h : ℕ) (l : List Summary) → totalOf (take h l) + totalOf (drop h l) ≡ totalOf l
 halves-total h l = sym (total-append (take h l) (drop h l)) ∙ ap totalOf (take-append-drop h l)
 
+-- a fold by halves weighs the sum of its members
 pub fold-weight : (s : Settings) (k : ℕ) (l : List Summary) → length l ≤ k → AllExact l → totalOf l ≤ most → Exactly (foldBalanced s k l) (totalOf l)
 unfolding foldBalanced totalOf
 fold-weight s zero [] h c b = blank-exact
@@ -68,6 +69,7 @@ pub members-count : (t : Tree) (b : Bool) (ks : List ℕ) → ((c : ℕ) → 0 <
 members-count t b [] h = tt
 members-count t b (k ∷ ks) h = (h k (occurs-here k ks), members-count t b ks (λ c o. h c (occurs-later c k ks o)))
 
+-- the rebuild count is no part of the invariant
 pub counted-whole : (s : Settings) (t : Tree) (total : ℕ) → Whole s t total → Whole s (counted t) total
 counted-whole s t total w = (w .0, record { links = links′; exact = exact′; weighs = weighs′ }, count′)
   where
@@ -75,7 +77,13 @@ counted-whole s t total w = (w .0, record { links = links′; exact = exact′; 
     links′ = unfold counted nodeAt in (w .1 .links)
 
     exact′ : Exact (counted t) total
-    exact′ = unfold counted nodeAt entryAt entryWeight in record { at-node = w .1 .exact .at-node; at-entry = w .1 .exact .at-entry; some-entry = w .1 .exact .some-entry; small = w .1 .exact .small }
+    exact′ =
+        unfold counted nodeAt entryAt entryWeight in record {
+          at-node = w .1 .exact .at-node;
+          at-entry = w .1 .exact .at-entry;
+          some-entry = w .1 .exact .some-entry;
+          small = w .1 .exact .small;
+        }
 
     weighs′ : Weighs (nodeAt (counted t)) (entryWeight (counted t)) (nodeWeight (counted t)) (length ((counted t) .nodes)) ((counted t) .root) total
     weighs′ = unfold counted nodeAt entryAt entryWeight nodeWeight in (w .1 .weighs)

@@ -50,6 +50,7 @@ place-entries s e t =
     let v = begun l e (alongPath (λ c. merge s c e) l t) in
     splitUp-entries s (length (v .nodes)) l v
 
+-- a list of entries placed one after the other
 pub place-all : (s : Settings) (es : List Summary) (t : Tree) (total : ℕ) → Caps s → Ready s t total → Rows es → total + totalOf es ≤ most
     → Ready s (replacedAll s es t) (total + totalOf es) × (length ((replacedAll s es t) .entries) ≡ length (t .entries) + length es)
 unfolding replacedAll totalOf
@@ -58,8 +59,11 @@ place-all s (e ∷ es) t total c g r b =
     let w = place-ready s e t (rowsIn e) total c g (r .0) (r .1) (omega arith) in
     let i = place-all s es (replaced s e t) (total + rowsIn e) c (inr w) (r .2) (omega arith) in
     let n : length ((replaced s e t) .entries) ≡ suc (length (t .entries)) = ap (λ l. length l) (place-entries s e t) ∙ snoc-length (t .entries) e in
-    let m = i .1 in
-    (subst (λ z. Ready s (replacedAll s es (replaced s e t)) z) (let q : total + rowsIn e + totalOf es ≡ total + (rowsIn e + totalOf es) = omega arith in q) (i .0), omega arith)
+    let m = i .1 in (
+      subst (λ z. Ready s (replacedAll s es (replaced s e t)) z) (let q : total + rowsIn e + totalOf es ≡ total + (rowsIn e + totalOf es) = omega arith in q)
+          (i .0),
+      omega arith,
+    )
 
 entries-rows : (t : Tree) (cs : List ℕ) → ((c : ℕ) → 0 < occurs c cs → IsExact (entryAt t c) × (1 ≤ entryWeight t c)) → Rows (map (entryAt t) cs)
 unfolding entryWeight
@@ -73,7 +77,9 @@ unfolding totalOf over entryWeight
 entries-total t [] = refl
 entries-total t (c ∷ cs) = let h = entries-total t cs in omega arith
 
-module _ {s : Settings} (t : Tree) {R : ℕ → ℕ} (total : ℕ) (caps : Caps s) (g : Frame (nodeAt t) (length (t .nodes)) (t .root) (length (t .entries)) R) (rows : (c : ℕ) → c < length (t .entries) → IsExact (entryAt t c) × (1 ≤ entryWeight t c)) (sums : sumTo (entryWeight t) (length (t .entries)) ≡ total) (small : total ≤ most) (pos : 0 < length (t .entries)) where
+module _ {s : Settings} (t : Tree) {R : ℕ → ℕ} (total : ℕ) (caps : Caps s) (g : Frame (nodeAt t) (length (t .nodes)) (t .root) (length (t .entries)) R)
+    (rows : (c : ℕ) → c < length (t .entries) → IsExact (entryAt t c) × (1 ≤ entryWeight t c)) (sums : sumTo (entryWeight t) (length (t .entries)) ≡ total)
+    (small : total ≤ most) (pos : 0 < length (t .entries)) where
   abbrev all : List ℕ
   all = collected t (length (t .nodes)) (t .root ∷ [])
 
@@ -90,25 +96,29 @@ module _ {s : Settings} (t : Tree) {R : ℕ → ℕ} (total : ℕ) (caps : Caps 
           let r = sum-some (is c) (length (t .entries)) (omega arith) in
           subst (λ k. k < length (t .entries)) (sym (is-eq c (r .0) (r .2))) (r .1)
 
-  listed : List Summary
-  listed = reverse (map (entryAt t) all)
-
-  list-rows : Rows (reverse (map (entryAt t) all))
+  pub list-rows : Rows (reverse (map (entryAt t) all))
   list-rows = rows-reverse (map (entryAt t) all) [] (entries-rows t all (λ c o. rows c (inside c o))) tt
 
-  list-total : totalOf (reverse (map (entryAt t) all)) ≡ total
+  pub list-total : totalOf (reverse (map (entryAt t) all)) ≡ total
   unfolding totalOf
-  list-total = let a = total-reverse (map (entryAt t) all) [] in let b = entries-total t all in let c = collect-sum s t g (entryWeight t) in let d = sums in omega arith
+  list-total =
+      let a = total-reverse (map (entryAt t) all) [] in
+      let b = entries-total t all in
+      let c = collect-sum s t g (entryWeight t) in
+      let d = sums in
+      omega arith
 
-  list-length : length (reverse (map (entryAt t) all)) ≡ length (t .entries)
+  pub list-length : length (reverse (map (entryAt t) all)) ≡ length (t .entries)
   list-length =
       length-reverse (map (entryAt t) all) ∙ length-map all (entryAt t) ∙ length-over all ∙ collect-sum s t g (λ _. 1) ∙ sum-ones (length (t .entries))
 
+  -- all entries placed anew: the invariant, as many rows and as many entries
   pub reinserted-whole : Whole s (reinserted s t) total × (length ((reinserted s t) .entries) ≡ length (t .entries))
   unfolding reinserted cleared blankNode
   reinserted-whole =
       let u = cleared t in
-      let r = place-all s (reverse (map (entryAt t) all)) u 0 caps (inl (blank, t .threshold, t .rebuilds, t .merged, blank-exact, refl, refl)) list-rows (let a = list-total in let b = small in omega arith) in
+      let r = place-all s (reverse (map (entryAt t) all)) u 0 caps (inl (blank, t .threshold, t .rebuilds, t .merged, blank-exact, refl, refl)) list-rows
+      (let a = list-total in let b = small in omega arith) in
       let k : 0 + totalOf (reverse (map (entryAt t) all)) ≡ total = let a = list-total in omega arith in
       let m : length ((reinserted s t) .entries) ≡ length (t .entries) = r .1 ∙ (let a = list-length in omega arith) in
       (final (subst (λ z. Ready s (reinserted s t) z) k (r .0)) m, m)

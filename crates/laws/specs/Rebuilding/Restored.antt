@@ -35,6 +35,7 @@ pub record Stale (s : Settings) (t : Tree) (R : ℕ → ℕ) (total : ℕ) : Typ
   pub counts : Counted t total
   pub small : total ≤ most
 
+-- a settled tree may be refolded too
 pub stale-of : (s : Settings) (t : Tree) (R : ℕ → ℕ) (total : ℕ) → Settled s t R total → Counted t total → Stale s t R total
 stale-of s t R total g n = record { links = g .links; rows = (λ c h. (g .exact .at-entry c h, g .exact .some-entry c h)); counts = n; small = g .exact .small }
 
@@ -117,7 +118,8 @@ module _ {s : Settings} {t : Tree} {R : ℕ → ℕ} {total : ℕ} (g : Stale s 
       member c o = go (nodeAt t i .leaf) refl
         where
           go : (b : Bool) → nodeAt t i .leaf ≡ b → IsExact (child v b c)
-          go true e = unfold child entryAt in subst (λ es. IsExact (getD es c blank)) (sym (y .entries-as)) (unfold entryAt in g .rows c (entry-below fr i c l e o) .0)
+          go true e =
+              unfold child entryAt in subst (λ es. IsExact (getD es c blank)) (sym (y .entries-as)) (unfold entryAt in g .rows c (entry-below fr i c l e o) .0)
           go false e = unfold child in exact-is (nodeAt v c .summary) (due c) (kids-done e c o)
 
       sums-to : totalOf (map (child v (nodeAt t i .leaf)) (nodeAt t i .list)) ≡ due i
@@ -137,7 +139,8 @@ module _ {s : Settings} {t : Tree} {R : ℕ → ℕ} {total : ℕ} (g : Stale s 
       done-i =
           subst (λ e. Exactly e (due i)) (sym sum-i)
           (subst (λ z. Exactly (foldBalanced s (length (nodeAt t i .list)) (map (child v (nodeAt t i .leaf)) (nodeAt t i .list))) z) sums-to
-          (fold-weight s (length (nodeAt t i .list)) (map (child v (nodeAt t i .leaf)) (nodeAt t i .list)) (let q = length-map (nodeAt t i .list) (child v (nodeAt t i .leaf)) in omega arith)
+          (fold-weight s (length (nodeAt t i .list)) (map (child v (nodeAt t i .leaf)) (nodeAt t i .list))
+          (let q = length-map (nodeAt t i .list) (child v (nodeAt t i .leaf)) in omega arith)
           (members-count v (nodeAt t i .leaf) (nodeAt t i .list) member) (let a = sums-to in let b = due-le i l in let c = g .small in omega arith)))
 
       done-all : (k : ℕ) → (k ≡ i) ⊎ Done v k → Done (refoldOne s i v) k
@@ -193,7 +196,8 @@ module _ {s : Settings} {t : Tree} {R : ℕ → ℕ} {total : ℕ} (g : Stale s 
           subst (λ m. Links s (nodeAt v) m (v .root) (length (v .entries)) R nil nil nil) (sym (y .nodes-as))
           (subst (λ r. Links s (nodeAt v) (length (t .nodes)) r (length (v .entries)) R nil nil nil) (sym (y .root-as))
           (subst (λ e. Links s (nodeAt v) (length (t .nodes)) (t .root) e R nil nil nil) (sym len-e)
-          (links-same s (nodeAt t) (nodeAt v) (length (t .nodes)) (t .root) (length (t .entries)) R nil nil nil (y .kids-as) (y .leaf-as) (y .parent-as) (g .links))))
+          (links-same s (nodeAt t) (nodeAt v) (length (t .nodes)) (t .root) (length (t .entries)) R nil nil nil (y .kids-as) (y .leaf-as) (y .parent-as)
+          (g .links))))
 
       entry-count : (c : ℕ) → c < length (t .entries) → IsExact (entryAt v c)
       entry-count c h = unfold entryAt in subst (λ es. IsExact (getD es c blank)) (sym (y .entries-as)) (unfold entryAt in g .rows c h .0)
@@ -211,10 +215,12 @@ module _ {s : Settings} {t : Tree} {R : ℕ → ℕ} {total : ℕ} (g : Stale s 
         where
           go : (nodeAt t k .leaf ≡ true) ⊎ (nodeAt t k .leaf ≡ false) → due k ≡ own (nodeAt v k) (entryWeight v) (nodeWeight v)
           go (inl e) =
-              due-leaf k h e ∙ sym (over-same (entryWeight v) (entryWeight t) (nodeAt t k .list) (λ c o. ew c)) ∙ ap (λ l. over (entryWeight v) l) (sym (y .kids-as k))
+              due-leaf k h e ∙ sym (over-same (entryWeight v) (entryWeight t) (nodeAt t k .list) (λ c o. ew c))
+              ∙ ap (λ l. over (entryWeight v) l) (sym (y .kids-as k))
               ∙ sym (own-leaf (nodeAt v k) (entryWeight v) (nodeWeight v) (y .leaf-as k ∙ e))
           go (inr e) =
-              due-inner k h e ∙ sym (over-same (nodeWeight v) due (nodeAt t k .list) (λ c o. wt c (kid-below fr k c h e o))) ∙ ap (λ l. over (nodeWeight v) l) (sym (y .kids-as k))
+              due-inner k h e ∙ sym (over-same (nodeWeight v) due (nodeAt t k .list) (λ c o. wt c (kid-below fr k c h e o)))
+              ∙ ap (λ l. over (nodeWeight v) l) (sym (y .kids-as k))
               ∙ sym (own-inner (nodeAt v k) (entryWeight v) (nodeWeight v) (y .leaf-as k ∙ e))
 
       weighs′ : Weighs (nodeAt v) (entryWeight v) (nodeWeight v) (length (v .nodes)) (v .root) total
@@ -230,12 +236,13 @@ module _ {s : Settings} {t : Tree} {R : ℕ → ℕ} {total : ℕ} (g : Stale s 
           same : sumTo (entryWeight v) (length (v .entries)) ≡ sumTo (entryWeight t) (length (t .entries))
           same = unfold entryWeight entryAt in ap (λ es. sumTo (λ k. rowsIn (getD es k blank)) (length es)) (y .entries-as)
 
-  pub restored : Whole s (refolded s t) total
+  -- the refold makes a stale tree settled
+  pub refold-restores : Whole s (refolded s t) total
   unfolding refolded
-  restored =
+  refold-restores =
       let r = refold-list (preorder t (length (t .nodes)) (t .root ∷ [])) (root-ordered t fr) in
       settled-like (refoldAll s (reverse (preorder t (length (t .nodes)) (t .root ∷ []))) t) (r .0) (λ c h. r .1 c (every-node t fr c h))
 
 -- so of a tree that holds
 pub refolded-whole : (s : Settings) (t : Tree) (total : ℕ) → Whole s t total → Whole s (refolded s t) total
-refolded-whole s t total w = restored (stale-of s t (w .0) total (w .1) (w .2))
+refolded-whole s t total w = refold-restores (stale-of s t (w .0) total (w .1) (w .2))

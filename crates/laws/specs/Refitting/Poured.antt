@@ -24,20 +24,26 @@ unfoldable pub pushedAll : Settings → List (List Float) → Summary → Summar
 pushedAll s [] e = e
 pushedAll s (x ∷ xs) e = pushedAll s xs (push s x e)
 
-poured-rows : (s : Settings) (t : Tree) (xs : List (List Float)) (es : List Summary) (c : ℕ) → c < length es → getD (poured s t xs es) c blank ≡ pushedAll s (rowsFor (route s t) c xs) (getD es c blank)
+poured-rows : (s : Settings) (t : Tree) (xs : List (List Float)) (es : List Summary) (c : ℕ) → c < length es
+    → getD (poured s t xs es) c blank ≡ pushedAll s (rowsFor (route s t) c xs) (getD es c blank)
 unfolding poured rowsFor pushedAll
 poured-rows s t [] es c h = refl
-poured-rows s t (x ∷ xs) es c h = poured-rows s t xs (changeAt (push s x) (route s t x) es) c (subst (λ n. c < n) (sym (length-change (push s x) (route s t x) es)) h) ∙ go (eqb c (route s t x)) refl
+poured-rows s t (x ∷ xs) es c h =
+    poured-rows s t xs (changeAt (push s x) (route s t x) es) c (subst (λ n. c < n) (sym (length-change (push s x) (route s t x) es)) h)
+    ∙ go (eqb c (route s t x)) refl
   where
     go : (b : Bool) → eqb c (route s t x) ≡ b
-        → pushedAll s (rowsFor (route s t) c xs) (getD (changeAt (push s x) (route s t x) es) c blank) ≡ pushedAll s (cond b (x ∷ rowsFor (route s t) c xs) (rowsFor (route s t) c xs)) (getD es c blank)
+        → pushedAll s (rowsFor (route s t) c xs) (getD (changeAt (push s x) (route s t x) es) c blank)
+        ≡ pushedAll s (cond b (x ∷ rowsFor (route s t) c xs) (rowsFor (route s t) c xs)) (getD es c blank)
     go true e =
         let q : c ≡ route s t x = eq-test c (route s t x) true e .0 refl in
-        ap (λ z. pushedAll s (rowsFor (route s t) c xs) z) (subst (λ i. getD (changeAt (push s x) i es) c blank ≡ push s x (getD es c blank)) q (change-at (push s x) c blank es h))
+        ap (λ z. pushedAll s (rowsFor (route s t) c xs) z) (subst (λ i. getD (changeAt (push s x) i es) c blank ≡ push s x (getD es c blank)) q
+        (change-at (push s x) c blank es h))
     go false e = ap (λ z. pushedAll s (rowsFor (route s t) c xs) z) (change-off (push s x) (route s t x) c blank es (eq-test c (route s t x) false e .1 refl))
 
 -- each entry, begun afresh, holds exactly its own rows
-pub reaccumulated-rows : (s : Settings) (t : Tree) (xs : List (List Float)) (c : ℕ) → c < length (t .entries) → getD (reaccumulated s t xs) c blank ≡ pushedAll s (rowsFor (route s t) c xs) blank
+pub reaccumulated-rows : (s : Settings) (t : Tree) (xs : List (List Float)) (c : ℕ) → c < length (t .entries)
+    → getD (reaccumulated s t xs) c blank ≡ pushedAll s (rowsFor (route s t) c xs) blank
 unfolding reaccumulated
 reaccumulated-rows s t xs c h =
     poured-rows s t xs (map (λ _. blank) (t .entries)) c (subst (λ n. c < n) (sym (length-map (t .entries) (λ _. blank))) h)

@@ -21,7 +21,7 @@ use Rattle.laws.specs.Counting.Count.{eq-test}
 use Rattle.laws.specs.Invariant.Links.{Links, nil}
 use Rattle.laws.specs.Invariant.Sound.{entryWeight, Caps}
 use Rattle.laws.specs.Inserting.Grown.{Whole}
-use Rattle.laws.specs.Rebuilding.Restored.{Stale, stale-of, restored}
+use Rattle.laws.specs.Rebuilding.Restored.{Stale, stale-of, refold-restores}
 use Rattle.laws.specs.Ownership.Owner.{reinsertedTo, refitOwners, ownersRefit}
 use Rattle.laws.specs.Ownership.Owned.{Owned}
 use Rattle.laws.specs.Refitting.Round.{u, bs, again-whole, w, few-u, again-owned, len-w, pos-u, all-stale, poured-owned, drop-stale, owned-u}
@@ -36,14 +36,16 @@ and-not : (b c : Bool) → (not b && c) ≡ true → b ≡ false
 and-not true c e = absurd (false≢true e)
 and-not false c e = refl
 
-pub loop-ends : (s : Settings) (xs : List (List Float)) (top : ℕ) → Caps s → 0 < length xs → length xs ≤ most → (k r : ℕ) (t : Tree) (R : ℕ → ℕ) (a : List ℕ)
-    → Links s (nodeAt t) (length (t .nodes)) (t .root) (length (t .entries)) R nil nil nil → length (t .entries) ≤ top → (k ≡ 0 → Stale s t R (length xs) × Owned t a)
+-- the rounds end in a tree of right links and entries, and in its account
+pub rounds-whole : (s : Settings) (xs : List (List Float)) (top : ℕ) → Caps s → 0 < length xs → length xs ≤ most → (k r : ℕ) (t : Tree) (R : ℕ → ℕ) (a : List ℕ)
+    → Links s (nodeAt t) (length (t .nodes)) (t .root) (length (t .entries)) R nil nil nil → length (t .entries) ≤ top
+    → (k ≡ 0 → Stale s t R (length xs) × Owned t a)
     → Ended s (length xs) top t (refitRounds s xs k r t) (refitOwners s xs k r t a)
 unfolding refitRounds refitOwners
-loop-ends s xs top c pos small zero r t R a g few z = ((R, z refl .0), z refl .1, few, refl)
-loop-ends s xs top c pos small (suc k) r t R a g few z =
+rounds-whole s xs top c pos small zero r t R a g few z = ((R, z refl .0), z refl .1, few, refl)
+rounds-whole s xs top c pos small (suc k) r t R a g few z =
     go (every (λ b. b) (bs xs small t g)) refl (not (anyHollow ((u xs small t g) .nodes)) && leb 1 r) refl
-    (λ v b S gs fs zs. loop-ends s xs top c pos small k (suc r) v S b gs fs zs)
+    (λ v b S gs fs zs. rounds-whole s xs top c pos small k (suc r) v S b gs fs zs)
   where
     after : Tree
     after = reinserted s (u xs small t g)
@@ -52,7 +54,8 @@ loop-ends s xs top c pos small (suc k) r t R a g few z =
     owners = map (λ c. reinsertedTo s (u xs small t g) c) (map (renumber (bs xs small t g)) (map (route s t) xs))
 
     again : every (λ b. b) (bs xs small t g) ≡ false
-        → ((v : Tree) (b : List ℕ) (S : ℕ → ℕ) → Links s (nodeAt v) (length (v .nodes)) (v .root) (length (v .entries)) S nil nil nil → length (v .entries) ≤ top → (k ≡ 0 → Stale s v S (length xs) × Owned v b)
+        → ((v : Tree) (b : List ℕ) (S : ℕ → ℕ) → Links s (nodeAt v) (length (v .nodes)) (v .root) (length (v .entries)) S nil nil nil
+        → length (v .entries) ≤ top → (k ≡ 0 → Stale s v S (length xs) × Owned v b)
         → Ended s (length xs) top v (refitRounds s xs k (suc r) v) (refitOwners s xs k (suc r) v b))
         → Ended s (length xs) top t (refitRounds s xs k (suc r) after) (refitOwners s xs k (suc r) after owners)
     again e ih =
@@ -67,24 +70,38 @@ loop-ends s xs top c pos small (suc k) r t R a g few z =
         same = ap (λ c. c .2) (reinserted-counters s (u xs small t g)) ∙ (unfold dropped withEntries withNodes in refl)
 
     go : (p : Bool) → every (λ b. b) (bs xs small t g) ≡ p → (q : Bool) → (not (anyHollow ((u xs small t g) .nodes)) && leb 1 r) ≡ q
-        → ((v : Tree) (b : List ℕ) (S : ℕ → ℕ) → Links s (nodeAt v) (length (v .nodes)) (v .root) (length (v .entries)) S nil nil nil → length (v .entries) ≤ top → (k ≡ 0 → Stale s v S (length xs) × Owned v b)
+        → ((v : Tree) (b : List ℕ) (S : ℕ → ℕ) → Links s (nodeAt v) (length (v .nodes)) (v .root) (length (v .entries)) S nil nil nil
+        → length (v .entries) ≤ top → (k ≡ 0 → Stale s v S (length xs) × Owned v b)
         → Ended s (length xs) top v (refitRounds s xs k (suc r) v) (refitOwners s xs k (suc r) v b))
         → Ended s (length xs) top t
         (elim p as (λ _. Tree) [ true ↦ w xs small t g | false ↦ elim q as (λ _. Tree) [ true ↦ u xs small t g | false ↦ refitRounds s xs k (suc r) after ] ])
-        (elim p as (λ _. List ℕ) [ true ↦ map (route s t) xs | false ↦ elim q as (λ _. List ℕ) [ true ↦ map (renumber (bs xs small t g)) (map (route s t) xs) | false ↦ refitOwners s xs k (suc r) after owners ] ])
+        (elim p as (λ _. List ℕ) [
+          | true ↦ map (route s t) xs
+          | false ↦ elim q as (λ _. List ℕ) [
+            | true ↦ map (renumber (bs xs small t g))
+                (map (route s t) xs)
+            | false ↦ refitOwners s xs k (suc r) after owners
+          ]
+        ])
     go true e q f ih = ((R, all-stale xs small t g e), poured-owned xs small t g, lw, (unfold withEntries in refl))
       where
         lw : length ((w xs small t g) .entries) ≤ top
         lw = let a = len-w xs small t g in omega arith
-    go false e true f ih =
-        ((R, drop-stale xs small t g (and-not (anyHollow ((u xs small t g) .nodes)) (leb 1 r) f)), owned-u xs small t g, (let a = few-u xs small t g e in omega arith), (unfold dropped withEntries withNodes in refl))
+    go false e true f ih = (
+      (R, drop-stale xs small t g (and-not (anyHollow ((u xs small t g) .nodes)) (leb 1 r) f)),
+      owned-u xs small t g,
+      (let a = few-u xs small t g e in omega arith),
+      (unfold dropped withEntries withNodes in refl),
+    )
     go false e false f ih = again e ih
 
 -- ---- the refit
 
 -- rows into a tree with entries: the invariant, with the refit's rows as the total; no more entries; the merged total stays
-pub refit-whole : (s : Settings) (x : List Float) (xs : List (List Float)) (t : Tree) (old : ℕ) (a : List ℕ) → Caps s → Whole s t old → 0 < length (t .entries) → suc (length xs) ≤ most
-    → Whole s (refitted s (x ∷ xs) t) (suc (length xs)) × Owned (refitted s (x ∷ xs) t) (ownersRefit s (x ∷ xs) t a) × (length ((refitted s (x ∷ xs) t) .entries) ≤ length (t .entries)) × ((refitted s (x ∷ xs) t) .merged ≡ t .merged)
+pub refit-whole : (s : Settings) (x : List Float) (xs : List (List Float)) (t : Tree) (old : ℕ) (a : List ℕ) → Caps s → Whole s t old
+    → 0 < length (t .entries) → suc (length xs) ≤ most
+    → Whole s (refitted s (x ∷ xs) t) (suc (length xs)) × Owned (refitted s (x ∷ xs) t) (ownersRefit s (x ∷ xs) t a)
+    × (length ((refitted s (x ∷ xs) t) .entries) ≤ length (t .entries)) × ((refitted s (x ∷ xs) t) .merged ≡ t .merged)
 unfolding refitted ownersRefit
 refit-whole s x xs t old a c w pos small = go (eqb (length (t .entries)) 0) refl
   where
@@ -98,7 +115,9 @@ refit-whole s x xs t old a c w pos small = go (eqb (length (t .entries)) 0) refl
     b = refitOwners s (x ∷ xs) (length (t .entries)) 0 t a
 
     end : Ended s (suc (length xs)) (length (t .entries)) t v b
-    end = loop-ends s (x ∷ xs) (length (t .entries)) c (omega arith) small (length (t .entries)) 0 t (w .0) a (w .1 .links) (omega arith) (λ z. absurd (omega arith))
+    end =
+        rounds-whole s (x ∷ xs) (length (t .entries)) c (omega arith) small (length (t .entries)) 0 t (w .0) a (w .1 .links) (omega arith)
+        (λ z. absurd (omega arith))
 
     same-e : (refolded s v) .entries ≡ v .entries
     same-e = refolded-entries s v
@@ -110,20 +129,29 @@ refit-whole s x xs t old a c w pos small = go (eqb (length (t .entries)) 0) refl
     ew c = unfold entryWeight entryAt in ap (λ l. rowsIn (getD l c blank)) same-e
 
     go : (p : Bool) → eqb (length (t .entries)) 0 ≡ p
-        → Whole s (cond p t (refolded s v)) (suc (length xs)) × Owned (cond p t (refolded s v)) (cond p a b) × (length ((cond p t (refolded s v)) .entries) ≤ length (t .entries)) × ((cond p t (refolded s v)) .merged ≡ t .merged)
+        → Whole s (cond p t (refolded s v)) (suc (length xs)) × Owned (cond p t (refolded s v)) (cond p a b)
+        × (length ((cond p t (refolded s v)) .entries) ≤ length (t .entries)) × ((cond p t (refolded s v)) .merged ≡ t .merged)
     go true e = let z = eq-test (length (t .entries)) 0 true e .0 refl in absurd (omega arith)
-    go false e = (restored (end .0 .1), (λ c. ew c ∙ end .1 c), (let q : length ((refolded s v) .entries) ≡ length (v .entries) = ap (λ l. length l) same-e in let r = end .2 in omega arith), same-m ∙ end .3)
+    go false e = (
+      refold-restores (end .0 .1),
+      (λ c. ew c ∙ end .1 c),
+      (let q : length ((refolded s v) .entries) ≡ length (v .entries) = ap (λ l. length l) same-e in
+          let r = end .2 in omega arith),
+      same-m ∙ end .3,
+    )
 
 -- ---- the fuel never decides: whatever is given, from the count of entries up, the rounds end alike
 
 pub fuel-enough : (s : Settings) (xs : List (List Float)) → Caps s → 0 < length xs → length xs ≤ most → (k j r : ℕ) (t : Tree) (R : ℕ → ℕ) (a : List ℕ)
-    → Links s (nodeAt t) (length (t .nodes)) (t .root) (length (t .entries)) R nil nil nil → 0 < length (t .entries) → length (t .entries) ≤ k → length (t .entries) ≤ j
+    → Links s (nodeAt t) (length (t .nodes)) (t .root) (length (t .entries)) R nil nil nil → 0 < length (t .entries) → length (t .entries) ≤ k
+    → length (t .entries) ≤ j
     → (refitRounds s xs k r t ≡ refitRounds s xs j r t) × (refitOwners s xs k r t a ≡ refitOwners s xs j r t a)
 unfolding refitRounds refitOwners
 fuel-enough s xs c pos small zero j r t R a g some-e hk hj = absurd (omega arith)
 fuel-enough s xs c pos small (suc k) zero r t R a g some-e hk hj = absurd (omega arith)
 fuel-enough s xs c pos small (suc k) (suc j) r t R a g some-e hk hj =
-    go (every (λ b. b) (bs xs small t g)) refl (not (anyHollow ((u xs small t g) .nodes)) && leb 1 r) (λ v S b gs p hk hj. fuel-enough s xs c pos small k j (suc r) v S b gs p hk hj)
+    go (every (λ b. b) (bs xs small t g)) refl (not (anyHollow ((u xs small t g) .nodes)) && leb 1 r) (λ v S b gs p hk hj. fuel-enough s xs c pos small k j
+    (suc r) v S b gs p hk hj)
   where
     after : Tree
     after = reinserted s (u xs small t g)
@@ -132,12 +160,29 @@ fuel-enough s xs c pos small (suc k) (suc j) r t R a g some-e hk hj =
     owners = map (λ c. reinsertedTo s (u xs small t g) c) (map (renumber (bs xs small t g)) (map (route s t) xs))
 
     go : (p : Bool) → every (λ b. b) (bs xs small t g) ≡ p → (q : Bool)
-        → ((v : Tree) (S : ℕ → ℕ) (b : List ℕ) → Links s (nodeAt v) (length (v .nodes)) (v .root) (length (v .entries)) S nil nil nil → 0 < length (v .entries) → length (v .entries) ≤ k → length (v .entries) ≤ j
+        → ((v : Tree) (S : ℕ → ℕ) (b : List ℕ) → Links s (nodeAt v) (length (v .nodes)) (v .root) (length (v .entries)) S nil nil nil → 0 < length (v .entries)
+        → length (v .entries) ≤ k → length (v .entries) ≤ j
         → (refitRounds s xs k (suc r) v ≡ refitRounds s xs j (suc r) v) × (refitOwners s xs k (suc r) v b ≡ refitOwners s xs j (suc r) v b))
-        → (_≡_ {A = Tree} (elim p as (λ _. Tree) [ true ↦ w xs small t g | false ↦ elim q as (λ _. Tree) [ true ↦ u xs small t g | false ↦ refitRounds s xs k (suc r) after ] ])
+        → (_≡_ {A = Tree}
+        (elim p as (λ _. Tree) [ true ↦ w xs small t g | false ↦ elim q as (λ _. Tree) [ true ↦ u xs small t g | false ↦ refitRounds s xs k (suc r) after ] ])
         (elim p as (λ _. Tree) [ true ↦ w xs small t g | false ↦ elim q as (λ _. Tree) [ true ↦ u xs small t g | false ↦ refitRounds s xs j (suc r) after ] ]))
-        × (_≡_ {A = List ℕ} (elim p as (λ _. List ℕ) [ true ↦ map (route s t) xs | false ↦ elim q as (λ _. List ℕ) [ true ↦ map (renumber (bs xs small t g)) (map (route s t) xs) | false ↦ refitOwners s xs k (suc r) after owners ] ])
-        (elim p as (λ _. List ℕ) [ true ↦ map (route s t) xs | false ↦ elim q as (λ _. List ℕ) [ true ↦ map (renumber (bs xs small t g)) (map (route s t) xs) | false ↦ refitOwners s xs j (suc r) after owners ] ]))
+        × (_≡_ {A = List ℕ}
+        (elim p as (λ _. List ℕ) [
+          | true ↦ map (route s t) xs
+          | false ↦ elim q as (λ _. List ℕ) [
+            | true ↦ map (renumber (bs xs small t g))
+                (map (route s t) xs)
+            | false ↦ refitOwners s xs k (suc r) after owners
+          ]
+        ])
+        (elim p as (λ _. List ℕ) [
+          | true ↦ map (route s t) xs
+          | false ↦ elim q as (λ _. List ℕ) [
+            | true ↦ map (renumber (bs xs small t g))
+                (map (route s t) xs)
+            | false ↦ refitOwners s xs j (suc r) after owners
+          ]
+        ]))
     go true e q ih = (refl, refl)
     go false e true ih = (refl, refl)
     go false e false ih =

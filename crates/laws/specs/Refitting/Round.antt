@@ -47,26 +47,37 @@ unfolding poured
 pour-length s t [] es = refl
 pour-length s t (x ∷ xs) es = pour-length s t xs (changeAt (push s x) (route s t x) es) ∙ length-change (push s x) (route s t x) es
 
-pour : (s : Settings) (t : Tree) (n : ℕ) → ((x : List Float) → route s t x < n) → (xs : List (List Float)) (es : List Summary) (v : ℕ → ℕ) → length es ≡ n → ((c : ℕ) → c < n → Exactly (getD es c blank) (v c))
+pub reaccumulated-length : (s : Settings) (t : Tree) (xs : List (List Float)) → length (reaccumulated s t xs) ≡ length (t .entries)
+unfolding reaccumulated
+reaccumulated-length s t xs = pour-length s t xs (map (λ _. blank) (t .entries)) ∙ length-map (t .entries) (λ _. blank)
+
+-- an entry weighs what it did and the rows that are routed to it
+poured-weigh : (s : Settings) (t : Tree) (n : ℕ) → ((x : List Float) → route s t x < n) → (xs : List (List Float)) (es : List Summary) (v : ℕ → ℕ)
+    → length es ≡ n → ((c : ℕ) → c < n → Exactly (getD es c blank) (v c))
     → ((c : ℕ) → v c + length xs ≤ most) → (c : ℕ) → c < n → Exactly (getD (poured s t xs es) c blank) (v c + occurs c (map (route s t) xs))
 unfolding poured
-pour s t n inn [] es v len ex b c h = subst (λ z. Exactly (getD es c blank) z) (let z : occurs c [] ≡ 0 = unfold occurs in refl in let q : v c ≡ v c + occurs c [] = omega arith in q) (ex c h)
-pour s t n inn (x ∷ xs) es v len ex b c h =
+poured-weigh s t n inn [] es v len ex b c h =
+    subst (λ z. Exactly (getD es c blank) z) (let z : occurs c [] ≡ 0 = unfold occurs in refl in let q : v c ≡ v c + occurs c [] = omega arith in q) (ex c h)
+poured-weigh s t n inn (x ∷ xs) es v len ex b c h =
     subst (λ z. Exactly (getD (poured s t xs (changeAt (push s x) (route s t x) es)) c blank) z)
-    (let p = occurs-cons c (route s t x) (map (route s t) xs) in let q : v c + is c (route s t x) + occurs c (map (route s t) xs) ≡ v c + occurs c (route s t x ∷ map (route s t) xs) = omega arith in q)
-    (pour s t n inn xs (changeAt (push s x) (route s t x) es) (λ c. v c + is c (route s t x)) (length-change (push s x) (route s t x) es ∙ len) (λ d q. each d q (same? d (route s t x)))
-    (λ d. let p = b d in let q = is-le d (route s t x) in omega arith) c h)
+    (let p = occurs-cons c (route s t x) (map (route s t) xs) in let q : v c + is c (route s t x) + occurs c (map (route s t) xs) ≡ v c + occurs c
+    (route s t x ∷ map (route s t) xs) = omega arith in q)
+    (poured-weigh s t n inn xs (changeAt (push s x) (route s t x) es) (λ c. v c + is c (route s t x)) (length-change (push s x) (route s t x) es ∙ len)
+    (λ d q. each d q (same? d (route s t x))) (λ d. let p = b d in let q = is-le d (route s t x) in omega arith) c h)
   where
     each : (d : ℕ) → d < n → (d ≡ route s t x) ⊎ (d ≢ route s t x) → Exactly (getD (changeAt (push s x) (route s t x) es) d blank) (v d + is d (route s t x))
     each d q (inl e) =
-        subst (λ z. Exactly (getD (changeAt (push s x) (route s t x) es) d blank) z) (let p = is-same d (route s t x) e in let q : suc (v d) ≡ v d + is d (route s t x) = omega arith in q)
-        (subst (λ m. Exactly m (suc (v d))) (sym (subst (λ i. getD (changeAt (push s x) i es) d blank ≡ push s x (getD es d blank)) e (change-at (push s x) d blank es (subst (λ z. d < z) (sym len) q))))
+        subst (λ z. Exactly (getD (changeAt (push s x) (route s t x) es) d blank) z) (let p = is-same d (route s t x) e in let q : suc (v d) ≡ v d + is d
+        (route s t x) = omega arith in q) (subst (λ m. Exactly m (suc (v d)))
+        (sym (subst (λ i. getD (changeAt (push s x) i es) d blank ≡ push s x (getD es d blank)) e
+        (change-at (push s x) d blank es (subst (λ z. d < z) (sym len) q))))
         (push-weigh s x (getD es d blank) (v d) (ex d q) (let p = b d in omega arith)))
     each d q (inr e) =
-        subst (λ z. Exactly (getD (changeAt (push s x) (route s t x) es) d blank) z) (let p = is-other d (route s t x) e in let q : v d ≡ v d + is d (route s t x) = omega arith in q)
-        (subst (λ m. Exactly m (v d)) (sym (change-off (push s x) (route s t x) d blank es e)) (ex d q))
+        subst (λ z. Exactly (getD (changeAt (push s x) (route s t x) es) d blank) z) (let p = is-other d (route s t x) e in let q : v d ≡ v d + is d
+        (route s t x) = omega arith in q) (subst (λ m. Exactly m (v d)) (sym (change-off (push s x) (route s t x) d blank es e)) (ex d q))
 
-none-past : (s : Settings) (t : Tree) (n : ℕ) → ((x : List Float) → route s t x < n) → (xs : List (List Float)) (c : ℕ) → n ≤ c → occurs c (map (route s t) xs) ≡ 0
+none-past : (s : Settings) (t : Tree) (n : ℕ) → ((x : List Float) → route s t x < n) → (xs : List (List Float)) (c : ℕ) → n ≤ c
+    → occurs c (map (route s t) xs) ≡ 0
 none-past s t n inn [] c h = unfold occurs in refl
 none-past s t n inn (x ∷ xs) c h =
     let p = occurs-cons c (route s t x) (map (route s t) xs) in
@@ -108,7 +119,8 @@ unfolding anyHollow
 none-hollow [] d e k h = absurd (not-suc-le-zero h)
 none-hollow (n ∷ ns) d e k h = go (hollow n) refl e k h (λ q j r. none-hollow ns d q j r)
   where
-    go : (b : Bool) → hollow n ≡ b → (b || anyHollow ns) ≡ false → (k : ℕ) → k < suc (length ns) → (anyHollow ns ≡ false → (k : ℕ) → k < length ns → hollow (getD ns k d) ≡ false) → hollow (getD (n ∷ ns) k d) ≡ false
+    go : (b : Bool) → hollow n ≡ b → (b || anyHollow ns) ≡ false → (k : ℕ) → k < suc (length ns)
+        → (anyHollow ns ≡ false → (k : ℕ) → k < length ns → hollow (getD ns k d) ≡ false) → hollow (getD (n ∷ ns) k d) ≡ false
     go true p q k h ih = absurd (true≢false q)
     go false p q zero h ih = p
     go false p q (suc k) h ih = ih q k (le-of-suc-le-suc h)
@@ -123,15 +135,17 @@ some-left n e f = go (eqb (length (n .list)) 0) refl (subst (λ b. (b && eqb (le
 
 -- ---- one round
 
-module _ {s : Settings} (xs : List (List Float)) (small : length xs ≤ most) (t : Tree) {R : ℕ → ℕ} (g : Links s (nodeAt t) (length (t .nodes)) (t .root) (length (t .entries)) R nil nil nil) where
+module _ {s : Settings} (xs : List (List Float)) (small : length xs ≤ most) (t : Tree) {R : ℕ → ℕ} (g : Links s (nodeAt t) (length (t .nodes)) (t .root)
+    (length (t .entries)) R nil nil nil) where
   pub route-in : (x : List Float) → route s t x < length (t .entries)
   unfolding route
   route-in x =
       let l = leafFor t (λ c. distTo s c x) in
       let q = leaf-found s t (λ c. distTo s c x) R nil nil nil g in
-      held-in s (nodeAt t) (length (t .nodes)) (t .root) (length (t .entries)) R nil nil nil g l (closest (λ e. distTo s (entryAt t e) x) (nodeAt t l .list)) (q .0) (q .1)
-      (first-in (λ e. distTo s (entryAt t e) x) (nodeAt t l .list) (g .filled l (q .0))) .0
+      held-in s (nodeAt t) (length (t .nodes)) (t .root) (length (t .entries)) R nil nil nil g l (closest (λ e. distTo s (entryAt t e) x) (nodeAt t l .list))
+      (q .0) (q .1) (first-in (λ e. distTo s (entryAt t e) x) (nodeAt t l .list) (g .filled l (q .0))) .0
 
+  -- the entries poured afresh, which of them are used, the tree with them, and where each row went
   abbrev pub es : List Summary
   es = reaccumulated s t xs
 
@@ -144,77 +158,81 @@ module _ {s : Settings} (xs : List (List Float)) (small : length xs ≤ most) (t
   abbrev pub b : List ℕ
   b = map (route s t) xs
 
-  len-es : length (reaccumulated s t xs) ≡ length (t .entries)
-  unfolding reaccumulated
-  len-es = pour-length s t xs (map (λ _. blank) (t .entries)) ∙ length-map (t .entries) (λ _. blank)
+  len-es : length es ≡ length (t .entries)
+  len-es = reaccumulated-length s t xs
 
-  pub len-w : length ((withEntries (reaccumulated s t xs) t) .entries) ≡ length (t .entries)
+  pub len-w : length (w .entries) ≡ length (t .entries)
   unfolding withEntries
   len-w = len-es
 
-  len-bs : length (map used (reaccumulated s t xs)) ≡ length ((withEntries (reaccumulated s t xs) t) .entries)
+  len-bs : length bs ≡ length (w .entries)
   unfolding withEntries
-  len-bs = length-map (reaccumulated s t xs) used
+  len-bs = length-map es used
 
-  poured-exact : (c : ℕ) → c < length (t .entries) → Exactly (getD (reaccumulated s t xs) c blank) (occurs c (map (route s t) xs))
+  poured-exact : (c : ℕ) → c < length (t .entries) → Exactly (getD es c blank) (occurs c (map (route s t) xs))
   unfolding reaccumulated
-  poured-exact c h = subst (λ z. Exactly (getD (poured s t xs (map (λ _. blank) (t .entries))) c blank) z) (let q : 0 + occurs c (map (route s t) xs) ≡ occurs c (map (route s t) xs) = omega arith in q)
-      (pour s t (length (t .entries)) route-in xs (map (λ _. blank) (t .entries)) (λ _. 0) (length-map (t .entries) (λ _. blank)) (λ c h. subst (λ m. Exactly m 0) (sym (List·getD-map (λ _. blank) (t .entries) c blank)) blank-exact) (λ c. let q = small in omega arith) c h)
+  poured-exact c h =
+      subst (λ z. Exactly (getD (poured s t xs (map (λ _. blank) (t .entries))) c blank) z) (let q : 0 + occurs c (map (route s t) xs) ≡ occurs c
+      (map (route s t) xs) = omega arith in q)
+      (poured-weigh s t (length (t .entries)) route-in xs (map (λ _. blank) (t .entries)) (λ _. 0) (length-map (t .entries) (λ _. blank))
+      (λ c h. subst (λ m. Exactly m 0) (sym (List·getD-map (λ _. blank) (t .entries) c blank)) blank-exact) (λ c. let q = small in omega arith) c h)
 
-  pub poured-owned : Owned (withEntries (reaccumulated s t xs) t) (map (route s t) xs)
+  pub poured-owned : Owned w (map (route s t) xs)
   poured-owned c = go (lt? c (length (t .entries)))
     where
-      go : (c < length (t .entries)) ⊎ (length (t .entries) ≤ c) → entryWeight (withEntries (reaccumulated s t xs) t) c ≡ occurs c (map (route s t) xs)
-      go (inl h) = unfold entryWeight entryAt withEntries in exact-count (getD (reaccumulated s t xs) c blank) (occurs c (map (route s t) xs)) (poured-exact c h)
-      go (inr h) = weight-past (withEntries (reaccumulated s t xs) t) c (let q = len-w in omega arith) ∙ sym (none-past s t (length (t .entries)) route-in xs c h)
+      go : (c < length (t .entries)) ⊎ (length (t .entries) ≤ c) → entryWeight w c ≡ occurs c (map (route s t) xs)
+      go (inl h) = unfold entryWeight entryAt withEntries in exact-count (getD es c blank) (occurs c (map (route s t) xs)) (poured-exact c h)
+      go (inr h) = weight-past w c (let q = len-w in omega arith) ∙ sym (none-past s t (length (t .entries)) route-in xs c h)
 
-  flag-is : (c : ℕ) → c < length (t .entries) → getD (map used (reaccumulated s t xs)) c false ≡ ltb 0 (occurs c (map (route s t) xs))
-  flag-is c h = map-flag used (reaccumulated s t xs) c blank (let q = len-es in omega arith) ∙ tests
+  flag-is : (c : ℕ) → c < length (t .entries) → getD bs c false ≡ ltb 0 (occurs c (map (route s t) xs))
+  flag-is c h = map-flag used es c blank (let q = len-es in omega arith) ∙ tests
     where
-      tests : used (getD (reaccumulated s t xs) c blank) ≡ ltb 0 (occurs c (map (route s t) xs))
-      tests = unfold used in (let e = poured-exact c h in ap (λ z. lt f0 z) (e .0) ∙ ap (λ z. lt z (whole (occurs c (map (route s t) xs)))) (sym whole-0) ∙ lt-whole 0 (occurs c (map (route s t) xs)) (omega arith) (e .1))
+      tests : used (getD es c blank) ≡ ltb 0 (occurs c (map (route s t) xs))
+      tests =
+          unfold used in (let e = poured-exact c h in ap (λ z. lt f0 z) (e .0) ∙ ap (λ z. lt z (whole (occurs c (map (route s t) xs)))) (sym whole-0)
+          ∙ lt-whole 0 (occurs c (map (route s t) xs)) (omega arith) (e .1))
 
-  count-w : (c : ℕ) → c < length (t .entries) → IsExact (entryAt (withEntries (reaccumulated s t xs) t) c)
+  count-w : (c : ℕ) → c < length (t .entries) → IsExact (entryAt w c)
   unfolding entryAt withEntries
-  count-w c h = exact-is (getD (reaccumulated s t xs) c blank) (occurs c (map (route s t) xs)) (poured-exact c h)
+  count-w c h = exact-is (getD es c blank) (occurs c (map (route s t) xs)) (poured-exact c h)
 
-  in-t : (c : ℕ) → getD (map used (reaccumulated s t xs)) c false ≡ true → c < length (t .entries)
-  in-t c e = let p = up-in (map used (reaccumulated s t xs)) c e in let q = len-bs in let r = len-w in omega arith
+  in-t : (c : ℕ) → getD bs c false ≡ true → c < length (t .entries)
+  in-t c e = let p = up-in bs c e in let q = len-bs in let r = len-w in omega arith
 
-  live : (c : ℕ) → getD (map used (reaccumulated s t xs)) c false ≡ true → IsExact (entryAt (withEntries (reaccumulated s t xs) t) c) × (1 ≤ entryWeight (withEntries (reaccumulated s t xs) t) c)
+  live : (c : ℕ) → getD bs c false ≡ true → IsExact (entryAt w c) × (1 ≤ entryWeight w c)
   live c e =
       let h = in-t c e in
       let p : 0 < occurs c (map (route s t) xs) = ltb→lt 0 (occurs c (map (route s t) xs)) (subst T (sym (sym (flag-is c h) ∙ e)) tt) in
       let q = poured-owned c in
       (count-w c h, omega arith)
 
-  alive-same : (c : ℕ) → alive (map used (reaccumulated s t xs)) (entryWeight (withEntries (reaccumulated s t xs) t)) c ≡ entryWeight (withEntries (reaccumulated s t xs) t) c
-  alive-same c = go (flag? (map used (reaccumulated s t xs)) c) (lt? c (length (t .entries)))
+  alive-same : (c : ℕ) → alive bs (entryWeight w) c ≡ entryWeight w c
+  alive-same c = go (flag? bs c) (lt? c (length (t .entries)))
     where
-      go : (getD (map used (reaccumulated s t xs)) c false ≡ true) ⊎ (getD (map used (reaccumulated s t xs)) c false ≡ false) → (c < length (t .entries)) ⊎ (length (t .entries) ≤ c)
-          → alive (map used (reaccumulated s t xs)) (entryWeight (withEntries (reaccumulated s t xs) t)) c ≡ entryWeight (withEntries (reaccumulated s t xs) t) c
-      go (inl e) q = alive-up (map used (reaccumulated s t xs)) (entryWeight (withEntries (reaccumulated s t xs) t)) c e
+      go : (getD bs c false ≡ true) ⊎ (getD bs c false ≡ false) → (c < length (t .entries)) ⊎ (length (t .entries) ≤ c)
+          → alive bs (entryWeight w) c ≡ entryWeight w c
+      go (inl e) q = alive-up bs (entryWeight w) c e
       go (inr e) (inl h) =
           let p : occurs c (map (route s t) xs) ≤ 0 = nltb→le 0 (occurs c (map (route s t) xs)) (subst (λ z. T (not z)) (sym (sym (flag-is c h) ∙ e)) tt) in
           let q = poured-owned c in
-          alive-down (map used (reaccumulated s t xs)) (entryWeight (withEntries (reaccumulated s t xs) t)) c e ∙ omega arith
-      go (inr e) (inr h) = alive-down (map used (reaccumulated s t xs)) (entryWeight (withEntries (reaccumulated s t xs) t)) c e ∙ sym (weight-past (withEntries (reaccumulated s t xs) t) c (let q = len-w in omega arith))
+          alive-down bs (entryWeight w) c e ∙ omega arith
+      go (inr e) (inr h) = alive-down bs (entryWeight w) c e ∙ sym (weight-past w c (let q = len-w in omega arith))
 
-  counted-w : Counted (withEntries (reaccumulated s t xs) t) (length xs)
-  counted-w = sym (owned-sum (withEntries (reaccumulated s t xs) t) (map (route s t) xs) poured-owned) ∙ length-map xs (route s t)
+  counted-w : Counted w (length xs)
+  counted-w = sym (owned-sum w (map (route s t) xs) poured-owned) ∙ length-map xs (route s t)
 
-  sums : sumTo (alive (map used (reaccumulated s t xs)) (entryWeight (withEntries (reaccumulated s t xs) t))) (length ((withEntries (reaccumulated s t xs) t) .entries)) ≡ length xs
-  sums = sum-same (entryWeight (withEntries (reaccumulated s t xs) t)) (alive (map used (reaccumulated s t xs)) (entryWeight (withEntries (reaccumulated s t xs) t))) (length ((withEntries (reaccumulated s t xs) t) .entries)) (λ c q. alive-same c) ∙ counted-w
+  sums : sumTo (alive bs (entryWeight w)) (length (w .entries)) ≡ length xs
+  sums = sum-same (entryWeight w) (alive bs (entryWeight w)) (length (w .entries)) (λ c q. alive-same c) ∙ counted-w
 
-  links-w : Links s (nodeAt (withEntries (reaccumulated s t xs) t)) (length ((withEntries (reaccumulated s t xs) t) .nodes)) ((withEntries (reaccumulated s t xs) t) .root) (length ((withEntries (reaccumulated s t xs) t) .entries)) R nil nil nil
+  links-w : Links s (nodeAt w) (length (w .nodes)) (w .root) (length (w .entries)) R nil nil nil
   unfolding withEntries nodeAt
   links-w = subst (λ m. Links s (nodeAt t) (length (t .nodes)) (t .root) m R nil nil nil) (sym len-es) g
 
   -- every entry used
-  pub all-stale : every (λ b. b) (map used (reaccumulated s t xs)) ≡ true → Stale s (withEntries (reaccumulated s t xs) t) R (length xs)
+  pub all-stale : every (λ b. b) bs ≡ true → Stale s w R (length xs)
   all-stale e = record {
     links = links-w;
-    rows = (λ c h. live c (all-up (map used (reaccumulated s t xs)) e c (let q = len-bs in omega arith)));
+    rows = (λ c h. live c (all-up bs e c (let q = len-bs in omega arith)));
     counts = counted-w;
     small = small;
   }
@@ -223,23 +241,23 @@ module _ {s : Settings} (xs : List (List Float)) (small : length xs ≤ most) (t
   abbrev pub u : Tree
   u = dropped (map used (reaccumulated s t xs)) (withEntries (reaccumulated s t xs) t)
 
-  pub len-u : length ((dropped (map used (reaccumulated s t xs)) (withEntries (reaccumulated s t xs) t)) .entries) ≡ countUp (map used (reaccumulated s t xs))
-  len-u = dropped-entries (withEntries (reaccumulated s t xs) t) (map used (reaccumulated s t xs)) (length xs) links-w len-bs live sums
+  pub len-u : length (u .entries) ≡ countUp bs
+  len-u = dropped-entries w bs (length xs) links-w len-bs live sums
 
-  pub few-u : every (λ b. b) (map used (reaccumulated s t xs)) ≡ false → length ((dropped (map used (reaccumulated s t xs)) (withEntries (reaccumulated s t xs) t)) .entries) < length (t .entries)
-  few-u e = let a = len-u in let b = count-lt (map used (reaccumulated s t xs)) e in let c = len-bs in let d = len-w in omega arith
+  pub few-u : every (λ b. b) bs ≡ false → length (u .entries) < length (t .entries)
+  few-u e = let a = len-u in let b = count-lt bs e in let c = len-bs in let d = len-w in omega arith
 
-  pub owned-u : Owned (dropped (map used (reaccumulated s t xs)) (withEntries (reaccumulated s t xs) t)) (map (renumber (map used (reaccumulated s t xs))) (map (route s t) xs))
-  owned-u = drop-carries s (withEntries (reaccumulated s t xs) t) (map used (reaccumulated s t xs)) len-bs (map (route s t) xs) (λ c. alive-same c ∙ poured-owned c)
+  pub owned-u : Owned u (map (renumber bs) (map (route s t) xs))
+  owned-u = drop-carries s w bs len-bs (map (route s t) xs) (λ c. alive-same c ∙ poured-owned c)
 
-  frame-u : Frame (nodeAt u) (length (u .nodes)) (u .root) (length (u .entries)) R
-  frame-u = drop-frame (withEntries (reaccumulated s t xs) t) (map used (reaccumulated s t xs)) (length xs) links-w len-bs live sums
+  pub frame-u : Frame (nodeAt u) (length (u .nodes)) (u .root) (length (u .entries)) R
+  frame-u = drop-frame w bs (length xs) links-w len-bs live sums
 
-  rows-u : (k : ℕ) → k < length (u .entries) → IsExact (entryAt u k) × (1 ≤ entryWeight u k)
-  rows-u = drop-rows (withEntries (reaccumulated s t xs) t) (map used (reaccumulated s t xs)) (length xs) links-w len-bs live sums
+  pub rows-u : (k : ℕ) → k < length (u .entries) → IsExact (entryAt u k) × (1 ≤ entryWeight u k)
+  rows-u = drop-rows w bs (length xs) links-w len-bs live sums
 
-  counted-u : Counted u (length xs)
-  counted-u = drop-counted (withEntries (reaccumulated s t xs) t) (map used (reaccumulated s t xs)) (length xs) links-w len-bs live sums
+  pub counted-u : Counted u (length xs)
+  counted-u = drop-counted w bs (length xs) links-w len-bs live sums
 
   -- no leaf left empty
   pub drop-stale : anyHollow (u .nodes) ≡ false → Stale s u R (length xs)
@@ -256,7 +274,7 @@ module _ {s : Settings} (xs : List (List Float)) (small : length xs ≤ most) (t
       stay : (k : ℕ) → k < length (w .nodes) → nodeAt w k .leaf ≡ true → 0 < over (alive bs (λ _. 1)) (nodeAt w k .list)
       stay k h f =
           let a = size-leaf w bs (length xs) links-w len-bs live sums k f in
-          let l : k < length (u .nodes) = subst (λ z. k < z) (sym (dropped-nodes w bs (length xs) links-w len-bs live sums)) h in
+          let l : k < length (u .nodes) = subst (λ z. k < z) (sym (dropped-nodes bs w)) h in
           let q = full k l in
           let r = some-left (nodeAt u k) q (leaf-is w bs (length xs) links-w len-bs live sums k ∙ f) in
           omega arith
@@ -265,7 +283,9 @@ module _ {s : Settings} (xs : List (List Float)) (small : length xs ≤ most) (t
   pos-u h = go (length (u .entries)) refl
     where
       go : (k : ℕ) → length (u .entries) ≡ k → 0 < k
-      go zero e = let a : sumTo (entryWeight u) (length (u .entries)) ≡ 0 = ap (λ z. sumTo (entryWeight u) z) e ∙ (unfold sumTo in refl) in let b = counted-u in absurd (omega arith)
+      go zero e =
+          let a : sumTo (entryWeight u) (length (u .entries)) ≡ 0 = ap (λ z. sumTo (entryWeight u) z) e ∙ (unfold sumTo in refl) in let b = counted-u in
+          absurd (omega arith)
       go (suc k) e = omega arith
 
   -- reinserted

@@ -49,27 +49,39 @@ pub one-more : (s : Settings) (x : List Float) (t : Tree) → length ((grown s x
 one-more s x t = go (grown-one s x t)
   where
     go : OneEntry s x t (grown s x t) → length ((grown s x t) .entries) ≤ suc (length (t .entries))
-    go (took e w m q) = let a : length ((grown s x t) .entries) ≡ length (t .entries) = ap (λ l. length l) q ∙ length-change (push s x) e (t .entries) in omega arith
-    go (began w q) = let a : length ((grown s x t) .entries) ≡ suc (length (t .entries)) = ap (λ l. length l) q ∙ snoc-length (t .entries) (push s x blank) in omega arith
+    go (took e w m q) =
+        let a : length ((grown s x t) .entries) ≡ length (t .entries) = ap (λ l. length l) q ∙ length-change (push s x) e (t .entries) in
+        omega arith
+    go (began w q) =
+        let a : length ((grown s x t) .entries) ≡ suc (length (t .entries)) = ap (λ l. length l) q ∙ snoc-length (t .entries) (push s x blank) in
+        omega arith
 
 -- total rows held, at most max_leaves entries
 abbrev pub Kept : Settings → Tree → ℕ → Type 0
 Kept s t total = Holding s t total × (length (t .entries) ≤ s .«max_leaves»)
 
+-- with M entries at most before, so after, and room for M + 1 between
 pub inserted-kept : (s : Settings) (x : List Float) (t : Tree) (total : ℕ) → Caps s → 1 ≤ s .«max_leaves» → Kept s t total → total < most
-    → Whole s (inserted s x t) (suc total) × (length ((inserted s x t) .entries) ≤ s .«max_leaves») × (length ((grown s x t) .nodes) ≤ nodeCap s) × (length ((inserted s x t) .nodes) ≤ nodeCap s)
+    → Whole s (inserted s x t) (suc total) × (length ((inserted s x t) .entries) ≤ s .«max_leaves») × (length ((grown s x t) .nodes) ≤ nodeCap s)
+    × (length ((inserted s x t) .nodes) ≤ nodeCap s)
 unfolding inserted
 inserted-kept s x t total c one k h =
     let w : Whole s (grown s x t) (suc total) = grown-holds s x t total c (k .0) h in
     let m = one-more s x t in
     let e = k .1 in
     let r = room-enough s (grown s x t) (suc total) w (omega arith) in
-    let q = go w (ltb (s .«max_leaves») (length ((grown s x t) .entries))) (ltb→lt (s .«max_leaves») (length ((grown s x t) .entries))) (nltb→le (s .«max_leaves») (length ((grown s x t) .entries))) (omega arith) in
-    (q .0, q .1, r, room-enough s (cond (ltb (s .«max_leaves») (length ((grown s x t) .entries))) (rebuilt s (grown s x t)) (grown s x t)) (suc total) (q .0) (let z = q .1 in omega arith))
+    let q = go w (ltb (s .«max_leaves») (length ((grown s x t) .entries))) (ltb→lt (s .«max_leaves») (length ((grown s x t) .entries)))
+    (nltb→le (s .«max_leaves») (length ((grown s x t) .entries))) (omega arith) in (
+      q .0,
+      q .1,
+      r,
+      room-enough s (cond (ltb (s .«max_leaves») (length ((grown s x t) .entries))) (rebuilt s (grown s x t)) (grown s x t)) (suc total) (q .0)
+          (let z = q .1 in omega arith),
+    )
   where
-    go : Whole s (grown s x t) (suc total) → (b : Bool) → (T b → s .«max_leaves» < length ((grown s x t) .entries)) → (T (not b) → length ((grown s x t) .entries) ≤ s .«max_leaves») → length ((grown s x t) .entries) ≤ suc (s .«max_leaves»)
-        → Whole s (cond b (rebuilt s (grown s x t)) (grown s x t)) (suc total) × (length ((cond b (rebuilt s (grown s x t)) (grown s x t)) .entries) ≤ s .«max_leaves»)
+    go : Whole s (grown s x t) (suc total) → (b : Bool) → (T b → s .«max_leaves» < length ((grown s x t) .entries))
+        → (T (not b) → length ((grown s x t) .entries) ≤ s .«max_leaves») → length ((grown s x t) .entries) ≤ suc (s .«max_leaves»)
+        → Whole s (cond b (rebuilt s (grown s x t)) (grown s x t)) (suc total)
+        × (length ((cond b (rebuilt s (grown s x t)) (grown s x t)) .entries) ≤ s .«max_leaves»)
     go w false f g z = (w, g tt)
     go w true f g z = let r = rebuilt-whole s (grown s x t) (suc total) c one w (f tt) in (r .0, (let y = r .1 in omega arith))
-
--- ---- any rows

@@ -36,17 +36,22 @@ pub record Owning (s : Settings) (t : Tree) (rows : ℕ) (a : List ℕ) : Type 0
   pub owned : Owned t a
 
 module _ {s : Settings} (z : Sized s) where
+  -- a row into a tree at rest leaves one, with one row more
   pub row-rests : (x : List Float) (t : Tree) (rows : ℕ) → AtRest s t rows → rows < most → AtRest s (inserted s x t) (suc rows)
   row-rests x t rows r h =
       let q = inserted-kept s x t rows (caps-of z) (z .most-some) (r .holds, r .few) h in
       record { holds = inr (q .0); few = q .1; unsettled = inserted-merged s x t (z .most-some) (r .unsettled) }
 
-  pub row-owning : (x : List Float) (t : Tree) (rows : ℕ) (a : List ℕ) → Owning s t rows a → rows < most → Owning s (inserted s x t) (suc rows) (ownersIn s x t a)
+  -- and its account
+  pub row-owning : (x : List Float) (t : Tree) (rows : ℕ) (a : List ℕ) → Owning s t rows a → rows < most
+      → Owning s (inserted s x t) (suc rows) (ownersIn s x t a)
   row-owning x t rows a o h =
       let r = o .rests in
       record { rests = row-rests x t rows r h; owned = inserted-owned s x t rows a (caps-of z) (z .most-some) (r .holds, r .few) h (o .owned) }
 
-  pub batch-owning : (xs : List (List Float)) (t : Tree) (rows : ℕ) (a : List ℕ) → Owning s t rows a → rows + length xs ≤ most → Owning s (insertedAll s xs t) (rows + length xs) (ownersAll s xs t a)
+  -- so with any rows
+  pub batch-owning : (xs : List (List Float)) (t : Tree) (rows : ℕ) (a : List ℕ) → Owning s t rows a → rows + length xs ≤ most
+      → Owning s (insertedAll s xs t) (rows + length xs) (ownersAll s xs t a)
   unfolding insertedAll ownersAll
   batch-owning [] t rows a o h = let e : rows ≡ rows + 0 = omega arith in subst (λ n. Owning s t n a) e o
   batch-owning (x ∷ xs) t rows a o h =
@@ -55,7 +60,8 @@ module _ {s : Settings} (z : Sized s) where
       (batch-owning xs (inserted s x t) (suc rows) (ownersIn s x t a) (row-owning x t rows a o (omega arith)) (omega arith))
 
   -- an effective refit asks nothing of the account before it
-  pub effective-owning : (xs : List (List Float)) (t : Tree) (rows : ℕ) (a : List ℕ) → AtRest s t rows → effective xs t ≡ true → length xs ≤ most → Owning s (refitted s xs t) (length xs) (ownersRefit s xs t a)
+  pub effective-owning : (xs : List (List Float)) (t : Tree) (rows : ℕ) (a : List ℕ) → AtRest s t rows → effective xs t ≡ true → length xs ≤ most
+      → Owning s (refitted s xs t) (length xs) (ownersRefit s xs t a)
   unfolding effective
   effective-owning [] t rows a r e h = let z : _≡_ {A = ℕ} 0 1 = cc in absurd (omega arith)
   effective-owning (x ∷ xs) t rows a r e h = go (r .holds)

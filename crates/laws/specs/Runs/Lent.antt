@@ -107,8 +107,10 @@ owning-account {s} {t} {rows} {a} o = go (o .rests .holds)
         none : a ≡ []
         none = nil-of a (owned-length o ∙ b .1)
 
-        by : Zero (b .0 .0 .weight) → Account t a ⊎ ((a ≡ []) × ((z : Summary) × (h : Float) × (r : ℕ) × (m : ℕ) × (z .weight ≡ neg (whole 0)) × (t ≡ emptyTree z h r m)))
-        by (inl e) = inl (subst (λ c. Account t c) (sym none) (subst (λ u. Account u []) (sym (b .0 .5)) (empty-account (b .0 .0) (b .0 .1) (b .0 .2) (b .0 .3) e)))
+        by : Zero (b .0 .0 .weight)
+            → Account t a ⊎ ((a ≡ []) × ((z : Summary) × (h : Float) × (r : ℕ) × (m : ℕ) × (z .weight ≡ neg (whole 0)) × (t ≡ emptyTree z h r m)))
+        by (inl e) =
+            inl (subst (λ c. Account t c) (sym none) (subst (λ u. Account u []) (sym (b .0 .5)) (empty-account (b .0 .0) (b .0 .1) (b .0 .2) (b .0 .3) e)))
         by (inr e) = inr (none, (b .0 .0, b .0 .1, b .0 .2, b .0 .3, e, b .0 .5))
 
 -- ---- every accepted call on a passing tree gives a passing tree
@@ -118,11 +120,14 @@ module _ {s : Settings} (z : Sized s) (t : Tree) (n : Binary64 t) (ok : checked 
   row-passes x h = resting-passes s (inserted s x t) _ (row-owning z x t (totalOf (t .entries)) (standing 0 (t .entries)) (lent-owning s t n ok) h .rests)
 
   pub batch-passes : (xs : List (List Float)) → totalOf (t .entries) + length xs ≤ most → checked s (insertedAll s xs t) ≡ Passes
-  batch-passes xs h = resting-passes s (insertedAll s xs t) _ (batch-owning z xs t (totalOf (t .entries)) (standing 0 (t .entries)) (lent-owning s t n ok) h .rests)
+  batch-passes xs h =
+      resting-passes s (insertedAll s xs t) _ (batch-owning z xs t (totalOf (t .entries)) (standing 0 (t .entries)) (lent-owning s t n ok) h .rests)
 
   pub refit-passes : (xs : List (List Float)) → (0 < length (t .entries) → length xs ≤ most) → checked s (refitted s xs t) ≡ Passes
   refit-passes xs h = go (effective xs t) refl
     where
       go : (b : Bool) → effective xs t ≡ b → checked s (refitted s xs t) ≡ Passes
-      go true e = resting-passes s (refitted s xs t) _ (effective-owning z xs t (totalOf (t .entries)) (standing 0 (t .entries)) (passing-rests s t n ok) e (h (effective-some xs t e)) .rests)
+      go true e =
+          resting-passes s (refitted s xs t) _ (effective-owning z xs t (totalOf (t .entries)) (standing 0 (t .entries)) (passing-rests s t n ok) e
+          (h (effective-some xs t e)) .rests)
       go false e = ap (λ u. checked s u) (idle-refit s xs t (standing 0 (t .entries)) e .0) ∙ ok

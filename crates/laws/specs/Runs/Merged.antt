@@ -27,7 +27,8 @@ balanced-merged s across t one = go across (leb (s .«max_leaves») (t .merged))
     go false true f = let q = zero-merged in omega arith
     go false false f = f tt
 
-by-merged : (s : Settings) (across : Bool) (ps : List Pair) (t : Tree) → 1 ≤ s .«max_leaves» → t .merged < s .«max_leaves» → (mergedBy s across ps t) .merged < s .«max_leaves»
+by-merged : (s : Settings) (across : Bool) (ps : List Pair) (t : Tree) → 1 ≤ s .«max_leaves» → t .merged < s .«max_leaves»
+    → (mergedBy s across ps t) .merged < s .«max_leaves»
 unfolding mergedBy
 by-merged s across ps t one h = go _
   where
@@ -51,7 +52,8 @@ rebuilt-merged s t one h =
     let b = with-merged s (siblings s t (t .nodes)) t one h in
     omega arith
 
-pub inserted-merged : (s : Settings) (x : List Float) (t : Tree) → 1 ≤ s .«max_leaves» → t .merged < s .«max_leaves» → (inserted s x t) .merged < s .«max_leaves»
+pub inserted-merged : (s : Settings) (x : List Float) (t : Tree) → 1 ≤ s .«max_leaves» → t .merged < s .«max_leaves»
+    → (inserted s x t) .merged < s .«max_leaves»
 unfolding inserted
 inserted-merged s x t one h = go (ltb (s .«max_leaves») (length ((grown s x t) .entries)))
   where

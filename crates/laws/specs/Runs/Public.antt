@@ -1,219 +1,98 @@
--- Demand 3 over the public calls: creation's outcome, and any calls after it, each on the head and the buffers that the last accepted one left.
-use borrow.Author.Tests.{leb-true, eqb-true}
-use lib.Dec.{leb, eqb}
-use mathlib.Core.Bool.{Bool, true, false, _||_}
-use Prim.Native.Nat.{ℕ, zero, suc, _+_, _-_, _/_, _≤_, _<_}
-use mathlib.Core.Path.{_≡_, refl, sym, subst, ap}
+-- Demand 3 over the public calls: an accepted creation, and any calls after it, accepted or refused, each on the head and the buffers that the last one left.
+use Prim.Native.Nat.{ℕ, _≤_}
+use mathlib.Core.Path.{_≡_}
 use mathlib.Core.List.{List, [], _∷_, _++_}
 use native.Mathlib.Omega.{arith}
-use lib.ListN.{length, drop}
+use lib.ListN.{length}
 use lib.Ieee.{Float}
-use Rattle.binary64.specs.Whole.{most}
-use Rattle.feature.specs.Summaries.{blank}
-use Rattle.feature.specs.Shape.{Shaped, blank-shaped}
-use Rattle.head.specs.declared.refusal.Refusal.the-variants as Refusals
-use Rattle.head.specs.declared.Settings.{Settings}
 use Rattle.head.specs.declared.Head.{Head}
 use Rattle.head.specs.declared.refusal.Refusal.{Refusal}
-use Rattle.head.specs.declared.refusal.Answer.the-variants.{Accepted}
-use Rattle.head.specs.Heads.{newCounters, settingsOf, withCounters}
-use Rattle.head.specs.Sizes.{linksNeeded, floatsNeeded, entryCap, blockWidth, nodes-small}
-use Rattle.head.specs.Limits.{allowed-sized, Sized, allowed}
-use Rattle.rules.specs.Calls.{Made, createRefusals, Lent, Left, lentTree, fronted, changed, settle, created, rowInserted, batchInserted, batchRefitted, insertFullRefusal, refitFullRefusal, rowRefusals, batchRefusals, batchShapeRefusal, madeBy, settingsRefusal, changeRefusals, roomRefusal, rowShapeRefusal}
-use Rattle.rules.specs.Tree.{fresh, Tree, nodeAt, entryAt, blankNode, cap}
-use Rattle.rules.specs.Slices.{countersOf, noParent, floatsOf, linksOf}
-use Rattle.rules.specs.CallLaws.{none-both, unless-none}
-use Rattle.rules.specs.Lists.{rowsOf}
-use Rattle.rules.specs.Stored.{Fits, stored}
-use Rattle.rules.specs.Check.{totalOf}
-use Rattle.rules.specs.Rebuild.{insertedAll, inserted}
-use Rattle.rules.specs.Refit.{refitted}
-use Rattle.laws.specs.Runs.Runs as Runs
-use Rattle.laws.specs.Summaries.{fresh-shaped, ShapedTree, batch-shaped, refit-shaped}
-use Rattle.laws.specs.Counting.All.{all-at}
-use Rattle.laws.specs.ForCode.{sure-of}
+use Rattle.head.specs.declared.refusal.Answer.the-variants.{Accepted, Refused}
+use Rattle.head.specs.Heads.{settingsOf}
+use Rattle.rules.specs.Calls.{Lent, Left, lentTree}
+use Rattle.rules.specs.Calls.{created, rowInserted, batchInserted, batchRefitted}
+use Rattle.rules.specs.Tree.{Tree}
+use Rattle.rules.specs.Insert.{grown}
 use Rattle.laws.specs.Check.Both.{AtRest}
 use Rattle.laws.specs.Ownership.Owner.{ownersIn, ownersAll, ownersRefit}
-use Rattle.laws.specs.Room.Kept.{holding-room}
-use Rattle.laws.specs.Runs.Runs.{rowsRefit, Run, run-owning, Promise, run-keeps, insert, refit}
+use Rattle.laws.specs.Locality.Row.{Local}
+use Rattle.laws.specs.Room.Nodes.{Roomy}
+use Rattle.laws.specs.Room.Calls.{Inserting, InsertingAll, Refitting, inserting-roomy, inserting-all-roomy, refitting-roomy}
+use Rattle.laws.specs.Runs.Runs.{rowsRefit, rest-total, run-owning, Promise, run-keeps}
+use Rattle.laws.specs.Runs.OneCall.{rowsIn, after, Public, row-accepted, batch-accepted, refit-accepted, any-row, any-batch, any-refit, row-left, after-create, after-refused}
 
--- ---- a tree at rest fits its slots
+-- the calls that change neither head nor tree
+pub data Reading : Type 0 where
+  routing : (rows : List Float) (out : List ℕ) → Reading
+  spread : (out : List Float) → Reading
+  validation : Reading
+  listing : Reading
 
-cap-in : (s : Settings) (b : Bool) → cap s b ≤ blockWidth s - 2
-unfolding cap blockWidth
-cap-in s true = omega arith
-cap-in s false = omega arith
-
-pub resting-fits : {s : Settings} → Sized s → (t : Tree) (rows : ℕ) → AtRest s t rows → ShapedTree s t → Fits s t
-unfolding entryCap
-resting-fits {s} z t rows r h =
-    let u = sure-of s t rows (r .holds) in
-    let few = holding-room s t rows (r .holds) (let q = r .few in omega arith) in
-    record {
-      nodes-few = few;
-      entries-few = (let q = r .few in omega arith);
-      lists-few = (λ i l. let a = u .fits i l in let b = cap-in s (nodeAt t i .leaf) in omega arith);
-      parents = (λ i l e. let a = u .parent-in i noParent l e in let b = nodes-small s z in omega arith);
-      nodes-shaped = (λ i l. unfold nodeAt blankNode in all-at (λ n. Shaped (s .feature) (s .dim) (n .summary)) (t .nodes) i blankNode (h .nodes) (blank-shaped (s .feature) (s .dim)));
-      entries-shaped = (λ i l. unfold entryAt in all-at (Shaped (s .feature) (s .dim)) (t .entries) i blank (h .entries) (blank-shaped (s .feature) (s .dim)));
-    }
-
--- ---- the calls
-
--- the rows of a batch
-unfoldable pub rowsIn : Head → List Float → List (List Float)
-rowsIn h xs = rowsOf (length xs / settingsOf h .dim) (settingsOf h .dim) xs
-
--- the head and the two buffers of a tree, the rows since the last effective refit with that refit's own, and whose each of these rows is
+-- From an accepted creation through any public calls: the head and the two buffers of the tree, the rows since the last effective refit with that refit's own,
+-- and whose each of these rows is. Each call is given any rows and any scratch, and may be refused.
 pub data Calls : Head → List Float → List ℕ → List (List Float) → List ℕ → Type 0 where
-  create : (h : Head) (fs : List Float) (ls : List ℕ) → created h fs ls .answer ≡ Accepted → Calls (created h fs ls .head) (created h fs ls .floats) (created h fs ls .links) [] []
-  row : {h : Head} (l : Lent) {ys : List (List Float)} {a : List ℕ} (x : List Float) → rowInserted h l x .answer ≡ Accepted → Calls h (l .floats) (l .links) ys a
-      → Calls (rowInserted h l x .head) (rowInserted h l x .lent .floats) (rowInserted h l x .lent .links) (ys ++ (x ∷ [])) (ownersIn (settingsOf h) x (lentTree h (l .floats) (l .links)) a)
-  batch : {h : Head} (l : Lent) {ys : List (List Float)} {a : List ℕ} (xs : List Float) → batchInserted h l xs .answer ≡ Accepted → Calls h (l .floats) (l .links) ys a
-      → Calls (batchInserted h l xs .head) (batchInserted h l xs .lent .floats) (batchInserted h l xs .lent .links) (ys ++ rowsIn h xs) (ownersAll (settingsOf h) (rowsIn h xs) (lentTree h (l .floats) (l .links)) a)
-  refitAll : {h : Head} (l : Lent) {ys : List (List Float)} {a : List ℕ} (xs : List Float) → batchRefitted h l xs .answer ≡ Accepted → Calls h (l .floats) (l .links) ys a
-      → Calls (batchRefitted h l xs .head) (batchRefitted h l xs .lent .floats) (batchRefitted h l xs .lent .links) (rowsRefit (rowsIn h xs) (lentTree h (l .floats) (l .links)) ys)
-      (ownersRefit (settingsOf h) (rowsIn h xs) (lentTree h (l .floats) (l .links)) a)
+  create : (h : Head) (fs : List Float) (ls : List ℕ) → created h fs ls .answer ≡ Accepted
+      → Calls (created h fs ls .head) (created h fs ls .floats) (created h fs ls .links) [] []
+  row : {h : Head} (l : Lent) {ys : List (List Float)} {a : List ℕ} (x : List Float) (o : Left) → o ≡ rowInserted h l x → Calls h (l .floats) (l .links) ys a
+      → Calls (o .head) (o .lent .floats) (o .lent .links) (after (o .answer) (ys ++ (x ∷ [])) ys)
+      (after (o .answer) (ownersIn (settingsOf h) x (lentTree h (l .floats) (l .links)) a) a)
+  batch : {h : Head} (l : Lent) {ys : List (List Float)} {a : List ℕ} (xs : List Float) (o : Left) → o ≡ batchInserted h l xs
+      → Calls h (l .floats) (l .links) ys a
+      → Calls (o .head) (o .lent .floats) (o .lent .links) (after (o .answer) (ys ++ rowsIn h xs) ys)
+      (after (o .answer) (ownersAll (settingsOf h) (rowsIn h xs) (lentTree h (l .floats) (l .links)) a) a)
+  refitAll : {h : Head} (l : Lent) {ys : List (List Float)} {a : List ℕ} (xs : List Float) (o : Left) → o ≡ batchRefitted h l xs
+      → Calls h (l .floats) (l .links) ys a
+      → Calls (o .head) (o .lent .floats) (o .lent .links) (after (o .answer) (rowsRefit (rowsIn h xs) (lentTree h (l .floats) (l .links)) ys) ys)
+      (after (o .answer) (ownersRefit (settingsOf h) (rowsIn h xs) (lentTree h (l .floats) (l .links)) a) a)
+  createAgain : {h : Head} {fs : List Float} {ls : List ℕ} {ys : List (List Float)} {a : List ℕ} (r : Refusal) → created h fs ls .answer ≡ Refused r
+      → Calls h fs ls ys a
+      → Calls (created h fs ls .head) (created h fs ls .floats) (created h fs ls .links) ys a
+  read : {h : Head} {fs : List Float} {ls : List ℕ} {ys : List (List Float)} {a : List ℕ} → Reading → Calls h fs ls ys a → Calls h fs ls ys a
 
--- ---- what an accepted answer says
+-- ---- any calls
 
--- it passed every test, and is done
-accepted-done : (rs : List Refusal) (h : Head) (l : Lent) (done : Left) → settle rs h l done .answer ≡ Accepted → (rs ≡ []) × (settle rs h l done ≡ done)
-unfolding settle
-accepted-done [] h l done e = (refl, refl)
-accepted-done (r ∷ rs) h l done e = let z : _≡_ {A = ℕ} 0 1 = cc in absurd (omega arith)
-
--- the tree that a changing call leaves is the one that its rule gives
-changed-tree : (h : Head) (l : Lent) (more : ℕ) (t : Tree) → Sized (settingsOf h) → Fits (settingsOf h) t
-    → lentTree (changed h l more t .head) (changed h l more t .lent .floats) (changed h l more t .lent .links) ≡ t
-unfolding changed lentTree fronted settingsOf withCounters
-changed-tree h l more t z f = stored (settingsOf h) z t f (drop (length (floatsOf (settingsOf h) t)) (l .floats)) (drop (length (linksOf (settingsOf h) t)) (l .links))
-
-changed-settings : (h : Head) (l : Lent) (more : ℕ) (t : Tree) → settingsOf (changed h l more t .head) ≡ settingsOf h
-unfolding changed settingsOf withCounters
-changed-settings h l more t = refl
-
--- ---- what holds throughout: the lent tree is that of a run over the rules
-
-pub record Public (h : Head) (fs : List Float) (ls : List ℕ) (ys : List (List Float)) (a : List ℕ) : Type 0 where
-  pub threshold : Float
-  pub sizes : Sized (settingsOf h)
-  pub run : Run (settingsOf h) threshold (lentTree h fs ls) ys a
-  pub shaped : ShapedTree (settingsOf h) (lentTree h fs ls)
-
--- one call from there: the rule's tree u, left in the buffers
-next : (h : Head) (l : Lent) (more : ℕ) (u : Tree) (ys : List (List Float)) (a : List ℕ) (threshold : Float) → Sized (settingsOf h) → Run (settingsOf h) threshold u ys a → ShapedTree (settingsOf h) u
-    → Public (changed h l more u .head) (changed h l more u .lent .floats) (changed h l more u .lent .links) ys a
-next h l more u ys a threshold z r k =
-    let o = run-owning z r in
-    let e = changed-tree h l more u z (resting-fits z u (length ys) (o .rests) k) in
-    let q = changed-settings h l more u in
-    record {
-      threshold = threshold;
-      sizes = subst Sized (sym q) z;
-      run = subst (λ s. Run s threshold (lentTree (changed h l more u .head) (changed h l more u .lent .floats) (changed h l more u .lent .links)) ys a) (sym q) (subst (λ t. Run (settingsOf h) threshold t ys a) (sym e) r);
-      shaped = subst (λ s. ShapedTree s (lentTree (changed h l more u .head) (changed h l more u .lent .floats) (changed h l more u .lent .links))) (sym q) (subst (ShapedTree (settingsOf h)) (sym e) k);
-    }
-
--- what tests passed say
-full-none : (t : Tree) (n : ℕ) → insertFullRefusal t n ≡ [] → totalOf (t .entries) + n ≤ most
-unfolding insertFullRefusal
-full-none t n e = leb-true (totalOf (t .entries) + n) most (unless-none (leb (totalOf (t .entries) + n) most) Refusals.Full e)
-
-refit-full-none : (t : Tree) (n : ℕ) → refitFullRefusal t n ≡ [] → 0 < length (t .entries) → n ≤ most
-unfolding refitFullRefusal
-refit-full-none t n e h = go (eqb (length (t .entries)) 0) refl (unless-none (eqb (length (t .entries)) 0 || leb n most) Refusals.Full e)
-  where
-    go : (b : Bool) → eqb (length (t .entries)) 0 ≡ b → (b || leb n most) ≡ true → n ≤ most
-    go true q f = let z = eqb-true (length (t .entries)) 0 q in absurd (omega arith)
-    go false q f = leb-true n most f
-
-rows-count : {A : Type 0} (k n : ℕ) (l : List A) → length (rowsOf k n l) ≡ k
-unfolding rowsOf
-rows-count zero n l = refl
-rows-count (suc k) n l = ap suc (rows-count k n (drop n l))
-
-abbrev PublicAfter : Left → List (List Float) → List ℕ → Type 0
-PublicAfter o ys a = Public (o .head) (o .lent .floats) (o .lent .links) ys a
-
-module _ (h : Head) (l : Lent) (ys : List (List Float)) (a : List ℕ) (p : Public h (l .floats) (l .links) ys a) where
-  abbrev s : Settings
-  s = settingsOf h
-
-  abbrev t : Tree
-  t = lentTree h (l .floats) (l .links)
-
-  after-row : (x : List Float) → rowInserted h l x .answer ≡ Accepted
-      → PublicAfter (rowInserted h l x) (ys ++ (x ∷ [])) (ownersIn (settingsOf h) x (lentTree h (l .floats) (l .links)) a)
-  unfolding rowInserted rowRefusals
-  after-row x e =
-      let (rs, is) = accepted-done (changeRefusals h l 0 ++ rowRefusals s t x) h l (changed h l 0 (inserted s x t)) e in
-      let full = none-both (rowShapeRefusal (s .dim) (length x)) (insertFullRefusal t 1) (none-both (changeRefusals h l 0) (rowRefusals s t x) rs .1) .1 in
-      let run : Run s (p .threshold) (insertedAll s (x ∷ []) t) (ys ++ (x ∷ [])) (ownersAll s (x ∷ []) t a) = insert {t = t} (x ∷ []) (full-none t 1 full) (p .run) in
-      let k : ShapedTree s (insertedAll s (x ∷ []) t) = batch-shaped s (x ∷ []) t (p .shaped) in
-      subst (λ o. PublicAfter o (ys ++ (x ∷ [])) (ownersIn s x t a)) (sym is) (one-row run k)
-    where
-      one-row : Run s (p .threshold) (insertedAll s (x ∷ []) t) (ys ++ (x ∷ [])) (ownersAll s (x ∷ []) t a) → ShapedTree s (insertedAll s (x ∷ []) t) → PublicAfter (changed h l 0 (inserted s x t)) (ys ++ (x ∷ [])) (ownersIn s x t a)
-      one-row run k = next h l 0 (inserted s x t) (ys ++ (x ∷ [])) (ownersIn s x t a) (p .threshold) (p .sizes) (unfold insertedAll ownersAll in run) (unfold insertedAll in k)
-
-  after-batch : (xs : List Float) → batchInserted h l xs .answer ≡ Accepted
-      → PublicAfter (batchInserted h l xs) (ys ++ rowsIn h xs) (ownersAll (settingsOf h) (rowsIn h xs) (lentTree h (l .floats) (l .links)) a)
-  unfolding batchInserted batchRefusals rowsIn
-  after-batch xs e =
-      let n = length xs / s .dim in
-      let rows = rowsOf n (s .dim) xs in
-      let (rs, is) = accepted-done (changeRefusals h l 0 ++ batchRefusals s t xs) h l (changed h l 0 (insertedAll s rows t)) e in
-      let full = none-both (batchShapeRefusal (s .dim) (length xs)) (insertFullRefusal t n) (none-both (changeRefusals h l 0) (batchRefusals s t xs) rs .1) .1 in
-      let run : Run s (p .threshold) (insertedAll s rows t) (ys ++ rows) (ownersAll s rows t a) = insert {t = t} rows (let q = full-none t n full in let c = rows-count n (s .dim) xs in omega arith) (p .run) in
-      subst (λ o. PublicAfter o (ys ++ rows) (ownersAll s rows t a)) (sym is) (next h l 0 (insertedAll s rows t) (ys ++ rows) (ownersAll s rows t a) (p .threshold) (p .sizes) run (batch-shaped s rows t (p .shaped)))
-
-  after-refit : (xs : List Float) → batchRefitted h l xs .answer ≡ Accepted
-      → PublicAfter (batchRefitted h l xs) (rowsRefit (rowsIn h xs) (lentTree h (l .floats) (l .links)) ys)
-      (ownersRefit (settingsOf h) (rowsIn h xs) (lentTree h (l .floats) (l .links)) a)
-  unfolding batchRefitted rowsIn
-  after-refit xs e =
-      let n = length xs / s .dim in
-      let rows = rowsOf n (s .dim) xs in
-      let wrong = batchShapeRefusal (s .dim) (length xs) ++ refitFullRefusal t n in
-      let (rs, is) = accepted-done (changeRefusals h l n ++ wrong) h l (changed h l n (refitted s rows t)) e in
-      let full = none-both (batchShapeRefusal (s .dim) (length xs)) (refitFullRefusal t n) (none-both (changeRefusals h l n) wrong rs .1) .1 in
-      let run : Run s (p .threshold) (refitted s rows t) (rowsRefit rows t ys) (ownersRefit s rows t a) = refit {t = t} rows (λ m. let q = refit-full-none t n full m in let c = rows-count n (s .dim) xs in omega arith) (p .run) in
-      subst (λ o. PublicAfter o (rowsRefit rows t ys) (ownersRefit s rows t a)) (sym is) (next h l n (refitted s rows t) (rowsRefit rows t ys) (ownersRefit s rows t a) (p .threshold) (p .sizes) run (refit-shaped s rows t (p .shaped)))
-
--- creation
-abbrev PublicMade : Made → Type 0
-PublicMade m = Public (m .head) (m .floats) (m .links) [] []
-
-made-none : (rs : List Refusal) (h : Head) (fs : List Float) (ls : List ℕ) → madeBy rs h fs ls .answer ≡ Accepted → (rs ≡ []) × (madeBy rs h fs ls ≡ madeBy [] h fs ls)
-unfolding madeBy
-made-none [] h fs ls e = (refl, refl)
-made-none (r ∷ rs) h fs ls e = let z : _≡_ {A = ℕ} 0 1 = cc in absurd (omega arith)
-
-fresh-made : (h : Head) (fs : List Float) (ls : List ℕ) → Sized (settingsOf h) → PublicMade (madeBy [] h fs ls)
-unfolding madeBy fronted withCounters settingsOf lentTree countersOf newCounters fresh
-fresh-made h fs ls z =
-    let s = settingsOf h in
-    let thr = h .counters .threshold in
-    let run : Run s thr (fresh thr) [] [] = Runs.created in
-    let f = resting-fits z (fresh thr) 0 (run-owning z run .rests) (fresh-shaped s thr) in
-    let back = stored s z (fresh thr) f (drop (length (floatsOf s (fresh thr))) fs) (drop (length (linksOf s (fresh thr))) ls) in
-    record { threshold = thr; sizes = z; run = subst (λ t. Run s thr t [] []) (sym back) run; shaped = subst (ShapedTree s) (sym back) (fresh-shaped s thr) }
-
-after-create : (h : Head) (fs : List Float) (ls : List ℕ) → created h fs ls .answer ≡ Accepted → PublicMade (created h fs ls)
-unfolding created createRefusals settingsRefusal
-after-create h fs ls e =
-    let s = settingsOf h in
-    let more = roomRefusal (floatsNeeded s) (length fs) ++ roomRefusal (linksNeeded s) (length ls) in
-    let (rs, is) = made-none (settingsRefusal h ++ more) h fs ls e in
-    let ok = unless-none (allowed h) Refusals.Settings (none-both (settingsRefusal h) more rs .0) in
-    subst PublicMade (sym is) (fresh-made h fs ls (allowed-sized h ok))
-
+-- each call keeps it, accepted or refused
 pub calls-public : {h : Head} {fs : List Float} {ls : List ℕ} {ys : List (List Float)} {a : List ℕ} → Calls h fs ls ys a → Public h fs ls ys a
 calls-public (create h fs ls e) = after-create h fs ls e
-calls-public (row {h} l {ys} {a} x e c) = after-row h l ys a (calls-public c) x e
-calls-public (batch {h} l {ys} {a} xs e c) = after-batch h l ys a (calls-public c) xs e
-calls-public (refitAll {h} l {ys} {a} xs e c) = after-refit h l ys a (calls-public c) xs e
+calls-public (row {h} l {ys} {a} x o e c) = any-row h l ys a (calls-public c) x o e
+calls-public (batch {h} l {ys} {a} xs o e c) = any-batch h l ys a (calls-public c) xs o e
+calls-public (refitAll {h} l {ys} {a} xs o e c) = any-refit h l ys a (calls-public c) xs o e
+calls-public (createAgain {h} {fs} {ls} r e c) = after-refused r h fs ls e (calls-public c)
+calls-public (read q c) = calls-public c
 
--- demand 3, of the tree in the buffers after any accepted calls
-pub calls-keep : {h : Head} {fs : List Float} {ls : List ℕ} {ys : List (List Float)} {a : List ℕ} → Calls h fs ls ys a → Promise (settingsOf h) (lentTree h fs ls) ys a
+-- demand 3, of the tree in the buffers after any calls
+pub calls-keep : {h : Head} {fs : List Float} {ls : List ℕ} {ys : List (List Float)} {a : List ℕ} → Calls h fs ls ys a
+    → Promise (settingsOf h) (lentTree h fs ls) ys a
 calls-keep c = let p = calls-public c in run-keeps (p .sizes) (p .run)
+
+-- that tree is at rest
+pub calls-rest : {h : Head} {fs : List Float} {ls : List ℕ} {ys : List (List Float)} {a : List ℕ} → Calls h fs ls ys a
+    → AtRest (settingsOf h) (lentTree h fs ls) (length ys)
+calls-rest c = let p = calls-public c in run-owning (p .sizes) (p .run) .rests
+
+-- one more row, accepted and without a rebuild: between the trees in the buffers
+module _ {h : Head} (l : Lent) {ys : List (List Float)} {a : List ℕ} (c : Calls h (l .floats) (l .links) ys a) where
+  pub calls-local : (x : List Float) → rowInserted h l x .answer ≡ Accepted
+      → length ((grown (settingsOf h) x (lentTree h (l .floats) (l .links))) .entries) ≤ settingsOf h .«max_leaves»
+      → let o = rowInserted h l x in Local (settingsOf h) x (lentTree h (l .floats) (l .links)) (lentTree (o .head) (o .lent .floats) (o .lent .links))
+  calls-local x e few = row-left h l ys a (calls-public c) x e few
+
+  -- room at every moment of the next call
+  pub row-roomy : (x : List Float) → rowInserted h l x .answer ≡ Accepted → {u : Tree} → Inserting (settingsOf h) x (lentTree h (l .floats) (l .links)) u
+      → Roomy (settingsOf h) u
+  row-roomy x e w =
+      let small = row-accepted h l x e .1 in
+      let n = rest-total (calls-rest c) in
+      inserting-roomy (calls-public c .sizes) x (lentTree h (l .floats) (l .links)) (calls-rest c) (omega arith) w
+
+  pub batch-roomy : (xs : List Float) → batchInserted h l xs .answer ≡ Accepted → {u : Tree}
+      → InsertingAll (settingsOf h) (rowsIn h xs) (lentTree h (l .floats) (l .links)) u → Roomy (settingsOf h) u
+  batch-roomy xs e w =
+      let small = batch-accepted h l xs e .1 in
+      let n = rest-total (calls-rest c) in
+      inserting-all-roomy (calls-public c .sizes) (rowsIn h xs) (lentTree h (l .floats) (l .links)) (calls-rest c) (omega arith) w
+
+  pub refit-roomy : (xs : List Float) → batchRefitted h l xs .answer ≡ Accepted → {u : Tree}
+      → Refitting (settingsOf h) (rowsIn h xs) (lentTree h (l .floats) (l .links)) u → Roomy (settingsOf h) u
+  refit-roomy xs e w =
+      refitting-roomy (calls-public c .sizes) (rowsIn h xs) (lentTree h (l .floats) (l .links)) (calls-rest c) (refit-accepted h l xs e .1) w

@@ -2,13 +2,12 @@
 use Prim.Native.Nat.{ℕ, zero, suc, _+_, _≤_, _<_}
 use mathlib.Core.Path.{_≡_, refl, sym, ap, _∙_, subst}
 use mathlib.Core.Logic.{inl, inr}
-use mathlib.Core.Bool.{Bool, true, false, cond}
+use mathlib.Core.Bool.{Bool, true, false, cond, not}
 use mathlib.Core.List.{List, [], _∷_, _++_}
 use native.Mathlib.Omega.{arith}
 use lib.ListN.{length, length-append}
 use lib.Ieee.{Float}
 use lib.Dec.{eqb}
-use mathlib.Core.Bool.{not}
 use Rattle.binary64.specs.Whole.{most}
 use Rattle.feature.specs.Summaries.{blank}
 use Rattle.head.specs.declared.Settings.{Settings}
@@ -35,16 +34,19 @@ use Rattle.laws.specs.Runs.Calls.{effective, Owning, batch-owning, effec
 unfoldable pub rowsRefit : List (List Float) → Tree → List (List Float) → List (List Float)
 rowsRefit xs t ys = cond (effective xs t) xs ys
 
--- a run from a fresh tree of threshold h: the tree that it leaves, the rows since the last effective refit with that refit's own, and whose each of these rows is.
+-- a run from a fresh tree of threshold h: the tree that it leaves, the rows since the last effective refit with that refit's own,
+-- and whose each of these rows is.
 -- A row is a batch of one. Calls that change nothing are left out, and so are refused ones.
 pub data Run (s : Settings) (h : Float) : Tree → List (List Float) → List ℕ → Type 0 where
   created : Run s h (fresh h) [] []
-  insert : {t : Tree} {ys : List (List Float)} {a : List ℕ} (xs : List (List Float)) → totalOf (t .entries) + length xs ≤ most → Run s h t ys a → Run s h (insertedAll s xs t) (ys ++ xs) (ownersAll s xs t a)
-  refit : {t : Tree} {ys : List (List Float)} {a : List ℕ} (xs : List (List Float)) → (0 < length (t .entries) → length xs ≤ most) → Run s h t ys a → Run s h (refitted s xs t) (rowsRefit xs t ys) (ownersRefit s xs t a)
+  insert : {t : Tree} {ys : List (List Float)} {a : List ℕ} (xs : List (List Float)) → totalOf (t .entries) + length xs ≤ most → Run s h t ys a
+      → Run s h (insertedAll s xs t) (ys ++ xs) (ownersAll s xs t a)
+  refit : {t : Tree} {ys : List (List Float)} {a : List ℕ} (xs : List (List Float)) → (0 < length (t .entries) → length xs ≤ most) → Run s h t ys a
+      → Run s h (refitted s xs t) (rowsRefit xs t ys) (ownersRefit s xs t a)
 
 -- ---- what holds throughout
 
-rest-total : {s : Settings} {t : Tree} {rows : ℕ} → AtRest s t rows → totalOf (t .entries) ≡ rows
+pub rest-total : {s : Settings} {t : Tree} {rows : ℕ} → AtRest s t rows → totalOf (t .entries) ≡ rows
 rest-total {s} {t} {rows} r = go (r .holds)
   where
     go : Holding s t rows → totalOf (t .entries) ≡ rows
@@ -60,15 +62,19 @@ effective-some (x ∷ xs) t e = go (length (t .entries)) e
     go zero e = let z : _≡_ {A = ℕ} 0 1 = cc in absurd (omega arith)
     go (suc n) e = omega arith
 
-refit-owning : {s : Settings} → Sized s → (xs : List (List Float)) (t : Tree) (ys : List (List Float)) (a : List ℕ) → (0 < length (t .entries) → length xs ≤ most) → Owning s t (length ys) a → Owning s (refitted s xs t) (length (rowsRefit xs t ys)) (ownersRefit s xs t a)
+refit-owning : {s : Settings} → Sized s → (xs : List (List Float)) (t : Tree) (ys : List (List Float)) (a : List ℕ)
+    → (0 < length (t .entries) → length xs ≤ most) → Owning s t (length ys) a → Owning s (refitted s xs t) (length (rowsRefit xs t ys)) (ownersRefit s xs t a)
 unfolding rowsRefit
 refit-owning {s} z xs t ys a room o = go (effective xs t) refl
   where
     go : (b : Bool) → effective xs t ≡ b → Owning s (refitted s xs t) (length (cond b xs ys)) (ownersRefit s xs t a)
     go true e = effective-owning z xs t (length ys) a (o .rests) e (room (effective-some xs t e))
-    go false e = let q = idle-refit s xs t a e in subst (λ u. Owning s u (length ys) (ownersRefit s xs t a)) (sym (q .0)) (subst (λ c. Owning s t (length ys) c) (sym (q .1)) o)
+    go false e =
+        let q = idle-refit s xs t a e in
+        subst (λ u. Owning s u (length ys) (ownersRefit s xs t a)) (sym (q .0)) (subst (λ c. Owning s t (length ys) c) (sym (q .1)) o)
 
 module _ {s : Settings} (z : Sized s) {h : Float} where
+  -- at rest, with an account, at the end of any run
   pub run-owning : {t : Tree} {ys : List (List Float)} {a : List ℕ} → Run s h t ys a → Owning s t (length ys) a
   run-owning created = record { rests = fresh-rests z h; owned = fresh-owned h }
   run-owning (insert {t} {ys} {a} xs room r) =
@@ -91,7 +97,8 @@ module _ {s : Settings} (z : Sized s) {h : Float} where
   run-empty created e = refl
   run-empty (insert {t} {ys} {a} xs room r) e = go xs room (λ q. run-empty r q) e
     where
-      go : (xs : List (List Float)) → totalOf (t .entries) + length xs ≤ most → (length (t .entries) ≡ 0 → t ≡ fresh h) → length ((insertedAll s xs t) .entries) ≡ 0 → insertedAll s xs t ≡ fresh h
+      go : (xs : List (List Float)) → totalOf (t .entries) + length xs ≤ most → (length (t .entries) ≡ 0 → t ≡ fresh h)
+          → length ((insertedAll s xs t) .entries) ≡ 0 → insertedAll s xs t ≡ fresh h
       go [] room ih e = unfold insertedAll in ih e
       go (x ∷ xs) room ih e = absurd (some-rows (run-owning z (insert (x ∷ xs) room r)) (let q = length-append ys (x ∷ xs) in omega arith) e)
   run-empty (refit {t} {ys} {a} xs room r) e = go (effective xs t) refl (λ q. run-empty r q)
@@ -133,11 +140,13 @@ pub record Promise (s : Settings) (t : Tree) (ys : List (List Float)) (a : List 
   pub account : Account t a
   pub passes : checked s t ≡ Passes
 
+-- demand 3 at the end of any run
 pub run-keeps : {s : Settings} → Sized s → {h : Float} {t : Tree} {ys : List (List Float)} {a : List ℕ} → Run s h t ys a → Promise s t ys a
 run-keeps {s} z {h} {t} {ys} {a} r =
     let o = run-owning z r in
     let ok = resting-passes s t (length ys) (o .rests) in
-    let listed : (c : ℕ) → occurs c (leafLists (t .nodes)) ≡ below c (length (t .entries)) = once-back (length (t .entries)) (leafLists (t .nodes)) (passing-linked s t ok) in
+    let listed : (c : ℕ) → occurs c (leafLists (t .nodes)) ≡ below c (length (t .entries)) =
+    once-back (length (t .entries)) (leafLists (t .nodes)) (passing-linked s t ok) in
     record {
       few = o .rests .few;
       once = (λ c h. listed c ∙ below-in c (length (t .entries)) h);

@@ -13,7 +13,8 @@ use lib.Ieee.Fits.{and-l}
 use lib.ListN.{length}
 use Rattle.binary64.specs.Operators.{f0, largest, _⊗_}
 use Rattle.head.specs.declared.Settings.{Settings}
-use Rattle.rules.specs.Rebuild.{growth, Merging, dropped, grownThreshold, withMerges, rebalanced, compacted, mergedBy, mergedWith, counted, rebuilt, inserted, insertedAll}
+use Rattle.rules.specs.Rebuild.{growth, Merging, dropped, grownThreshold, withMerges, rebalanced, compacted}
+use Rattle.rules.specs.Rebuild.{mergedBy, mergedWith, counted, rebuilt, inserted, insertedAll}
 use Rattle.rules.specs.Tree.{Tree, withNodes, withEntries, withMerged}
 use Rattle.rules.specs.Insert.{grown}
 use Rattle.rules.specs.Pairs.{Pair, siblings, cousins}
@@ -84,7 +85,8 @@ raised-fine h w f = go h (w ⊗ growth) f
     go (inf s) x f = absurd (f .0)
     go (fin s m e) nan f = unfold lt ofBits in f
     go (fin s m e) (inf true) f = unfold lt ofBits in f
-    go (fin s m e) (inf false) f = subst (λ b. Fine (cond (lt (fin s m e) (cond b largest (inf false))) (cond b largest (inf false)) (fin s m e))) (sym top-is) (with-largest s m e f)
+    go (fin s m e) (inf false) f =
+        subst (λ b. Fine (cond (lt (fin s m e) (cond b largest (inf false))) (cond b largest (inf false)) (fin s m e))) (sym top-is) (with-largest s m e f)
     go (fin s m e) (fin t n d) f = by (lt largest (fin t n d))
       where
         by : (b : Bool) → Fine (cond (lt (fin s m e) (cond b largest (fin t n d))) (cond b largest (fin t n d)) (fin s m e))

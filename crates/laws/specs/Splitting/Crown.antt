@@ -28,7 +28,8 @@ pub record Crowned (A B : ℕ → Node) (i j n : ℕ) : Type 0 where
   pub parent-j : B j .parent ≡ some n
   pub parent-o : (k : ℕ) → k ≢ n → k ≢ i → k ≢ j → B k .parent ≡ A k .parent
 
-module _ {s : Settings} {A B : ℕ → Node} {n i es : ℕ} {R : ℕ → ℕ} {j : ℕ} (g : Links s A n i es R nil (is (suc (R i))) (is j)) (b : Crowned A B i j n) (lj : j < n) (rj : R j ≡ R i) (room : 2 ≤ cap s false) where
+module _ {s : Settings} {A B : ℕ → Node} {n i es : ℕ} {R : ℕ → ℕ} {j : ℕ} (g : Links s A n i es R nil (is (suc (R i))) (is j)) (b : Crowned A B i j n)
+    (lj : j < n) (rj : R j ≡ R i) (room : 2 ≤ cap s false) where
   rank-of : (k : ℕ) → k < n → put R n (suc (R i)) k ≡ R k
   rank-of k h = put-off R n (suc (R i)) k (lt-ne k n h)
 
@@ -43,7 +44,8 @@ module _ {s : Settings} {A B : ℕ → Node} {n i es : ℕ} {R : ℕ → ℕ} {j
   unfolding occurs
   occurs-two c = let a = occurs-cons c i (j ∷ []) in let d : occurs c (j ∷ []) ≡ is c j + 0 = occurs-cons c j [] in omega arith
 
-  crown-kid : (k c : ℕ) → k < suc n → B k .leaf ≡ false → 0 < occurs c (B k .list) → (B c .parent ≡ some k) × (put R n (suc (R i)) k ≡ suc (put R n (suc (R i)) c))
+  crown-kid : (k c : ℕ) → k < suc n → B k .leaf ≡ false → 0 < occurs c (B k .list)
+      → (B c .parent ≡ some k) × (put R n (suc (R i)) k ≡ suc (put R n (suc (R i)) c))
   crown-kid k c h f o = go (spot k h) (same? c i) (same? c j)
     where
       go : (k ≡ n) ⊎ (k < n) → (c ≡ i) ⊎ (c ≢ i) → (c ≡ j) ⊎ (c ≢ j) → (B c .parent ≡ some k) × (put R n (suc (R i)) k ≡ suc (put R n (suc (R i)) c))
@@ -82,11 +84,13 @@ module _ {s : Settings} {A B : ℕ → Node} {n i es : ℕ} {R : ℕ → ℕ} {j
 
   crown-inner : (c k : ℕ) → k < n → inner (B k) c ≡ inner (A k) c
   unfolding inner
-  crown-inner c k h = ap (λ z. cond z 0 (occurs c (B k .list))) (b .leaf-o k (lt-ne k n h)) ∙ ap (λ z. cond (A k .leaf) 0 (occurs c z)) (b .kids-o k (lt-ne k n h))
+  crown-inner c k h =
+      ap (λ z. cond z 0 (occurs c (B k .list))) (b .leaf-o k (lt-ne k n h)) ∙ ap (λ z. cond (A k .leaf) 0 (occurs c z)) (b .kids-o k (lt-ne k n h))
 
   crown-held : (c k : ℕ) → k < n → held (B k) c ≡ held (A k) c
   unfolding held
-  crown-held c k h = ap (λ z. cond z (occurs c (B k .list)) 0) (b .leaf-o k (lt-ne k n h)) ∙ ap (λ z. cond (A k .leaf) (occurs c z) 0) (b .kids-o k (lt-ne k n h))
+  crown-held c k h =
+      ap (λ z. cond z (occurs c (B k .list)) 0) (b .leaf-o k (lt-ne k n h)) ∙ ap (λ z. cond (A k .leaf) (occurs c z) 0) (b .kids-o k (lt-ne k n h))
 
   crown-nodes : (c : ℕ) → is c n + 0 + sumTo (λ k. inner (B k) c) (suc n) ≡ below c (suc n)
   unfolding sumTo
@@ -153,7 +157,8 @@ module _ {s : Settings} {A B : ℕ → Node} {n i es : ℕ} {R : ℕ → ℕ} {j
       d : rankCount R n (suc r) + is (suc (R i)) (suc r) ≤ rankCount R n r - 1
       d = g .grows r
 
-      go : (r ≡ R i) ⊎ (r ≢ R i) → (r ≡ suc (R i)) ⊎ (r ≢ suc (R i)) → rankCount (put R n (suc (R i))) (suc n) (suc r) + 0 ≤ rankCount (put R n (suc (R i))) (suc n) r - 1
+      go : (r ≡ R i) ⊎ (r ≢ R i) → (r ≡ suc (R i)) ⊎ (r ≢ suc (R i))
+          → rankCount (put R n (suc (R i))) (suc n) (suc r) + 0 ≤ rankCount (put R n (suc (R i))) (suc n) r - 1
       go (inl e) q =
           let u : is (suc r) (suc (R i)) ≡ 1 = is-same (suc r) (suc (R i)) (ap suc e) in
           let v : is (suc (R i)) (suc r) ≡ 1 = is-same (suc (R i)) (suc r) (ap suc (sym e)) in
@@ -165,8 +170,9 @@ module _ {s : Settings} {A B : ℕ → Node} {n i es : ℕ} {R : ℕ → ℕ} {j
           let x = a in let x′ = m in let x″ = d in
           omega arith
 
-  pub crown : Links s B (suc n) n es (put R n (suc (R i))) nil nil nil
-  crown = record {
+  -- the links after it, no orphan left
+  pub crowned-links : Links s B (suc n) n es (put R n (suc (R i))) nil nil nil
+  crowned-links = record {
     root-in = omega arith;
     root-top = b .parent-n;
     kid = crown-kid;

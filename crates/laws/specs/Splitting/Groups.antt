@@ -47,13 +47,15 @@ sides-length f i n m [] = refl
 sides-length f i n m (c ∷ cs) = ap suc (sides-length f (suc i) (plusIf (f i n m c) n) (plusIf (not (f i n m c)) m) cs)
 
 -- where the choice at a place q is v whatever the groups, the flag at q is v
-sides-at : (f : Chooser) (v : Bool) (q i n m p : ℕ) (cs : List Summary) → i + p ≡ q → p < length cs → ((n m : ℕ) (c : Summary) → f q n m c ≡ v) → getD (sides f i n m cs) p false ≡ v
+sides-at : (f : Chooser) (v : Bool) (q i n m p : ℕ) (cs : List Summary) → i + p ≡ q → p < length cs → ((n m : ℕ) (c : Summary) → f q n m c ≡ v)
+    → getD (sides f i n m cs) p false ≡ v
 unfolding sides
 sides-at f v q i n m p [] e h k = absurd (not-suc-le-zero h)
 sides-at f v q i n m zero (c ∷ cs) e h k =
     let iq : i ≡ q = omega arith in
     ap (λ j. f j n m c) iq ∙ k n m c
-sides-at f v q i n m (suc p) (c ∷ cs) e h k = sides-at f v q (suc i) (plusIf (f i n m c) n) (plusIf (not (f i n m c)) m) p cs (omega arith) (le-of-suc-le-suc h) k
+sides-at f v q i n m (suc p) (c ∷ cs) e h k =
+    sides-at f v q (suc i) (plusIf (f i n m c) n) (plusIf (not (f i n m c)) m) p cs (omega arith) (le-of-suc-le-suc h) k
 
 -- ---- the seeds are two places of the list
 
@@ -68,7 +70,8 @@ module _ (s : Settings) (n : ℕ) where
   with-two : (i : ℕ) (a : Summary) (j : ℕ) (cs : List Summary) (u : Seeds) → Two n u → i < j → j + length cs ≤ n → Two n (seedsWith s i a j cs u)
   unfolding seedsWith
   with-two i a j [] u h hi hj = h
-  with-two i a j (c ∷ cs) u h hi hj = with-two i a (suc j) cs (farther u i j (distBetween s a c)) (farther-two n u i j (distBetween s a c) h hi (omega arith)) (omega arith) (omega arith)
+  with-two i a j (c ∷ cs) u h hi hj =
+      with-two i a (suc j) cs (farther u i j (distBetween s a c)) (farther-two n u i j (distBetween s a c) h hi (omega arith)) (omega arith) (omega arith)
 
   from-two : (i : ℕ) (cs : List Summary) (u : Seeds) → Two n u → i + length cs ≤ n → Two n (seedsFrom s i cs u)
   unfolding seedsFrom
@@ -92,9 +95,15 @@ unfolding sidesBy
 both-groups s (seeds a b m) cs l h e =
     let f : Chooser = side s a b (getD cs a blank) (getD cs b blank) in
     let n = sides-length f 0 0 0 cs in
-    let at-a : getD (sides f 0 0 0 cs) a false ≡ true = sides-at f true a 0 0 0 a cs (omega arith) (omega arith) (side-first s a b (getD cs a blank) (getD cs b blank)) in
-    let at-b : getD (sides f 0 0 0 cs) b false ≡ false = sides-at f false b 0 0 0 b cs (omega arith) (omega arith) (side-second s a b (getD cs a blank) (getD cs b blank) (h .0)) in
-    (n ∙ e, keep-some (sides f 0 0 0 cs) a l (omega arith) at-a, keep-some (flip (sides f 0 0 0 cs)) b l (omega arith) (flip-at (sides f 0 0 0 cs) b (omega arith) at-b))
+    let at-a : getD (sides f 0 0 0 cs) a false ≡ true =
+    sides-at f true a 0 0 0 a cs (omega arith) (omega arith) (side-first s a b (getD cs a blank) (getD cs b blank)) in
+    let at-b : getD (sides f 0 0 0 cs) b false ≡ false =
+    sides-at f false b 0 0 0 b cs (omega arith) (omega arith) (side-second s a b (getD cs a blank) (getD cs b blank) (h .0)) in (
+      n ∙ e,
+      keep-some (sides f 0 0 0 cs) a l (omega arith) at-a,
+      keep-some (flip (sides f 0 0 0 cs)) b l (omega arith)
+          (flip-at (sides f 0 0 0 cs) b (omega arith) at-b),
+    )
 
 abbrev pub stayList : Settings → Tree → ℕ → List ℕ
 stayList s t i = keep (stays s t (nodeAt t i)) (nodeAt t i .list)

@@ -24,7 +24,8 @@ use Rattle.laws.specs.Counting.Lists.{snoc-length, change-off, change-ke
 -- ---- adopted: only parents change
 
 module _ (p : ℕ) (d : Node) where
-  pub adopted-keeps : {B : Type 0} (g : Node → B) (b : Bool) (ks : List ℕ) (ns : List Node) (k : ℕ) → ((m : Node) → g (under p m) ≡ g m) → g (getD (adopted b p ks ns) k d) ≡ g (getD ns k d)
+  pub adopted-keeps : {B : Type 0} (g : Node → B) (b : Bool) (ks : List ℕ) (ns : List Node) (k : ℕ) → ((m : Node) → g (under p m) ≡ g m)
+      → g (getD (adopted b p ks ns) k d) ≡ g (getD ns k d)
   unfolding adopted
   adopted-keeps g true ks ns k h = refl
   adopted-keeps g false [] ns k h = refl
@@ -57,8 +58,11 @@ module _ (p : ℕ) (d : Node) where
   adopted-in [] ns k l h = absurd (not-suc-le-zero h)
   adopted-in (x ∷ ks) ns k l h = go (same? k x) (λ o. adopted-in ks (changeAt (under p) x ns) k (subst (λ z. k < z) (sym (length-change (under p) x ns)) l) o)
     where
-      go : (k ≡ x) ⊎ (k ≢ x) → (0 < occurs k ks → getD (adopted false p ks (changeAt (under p) x ns)) k d .parent ≡ some p) → getD (adopted false p ks (changeAt (under p) x ns)) k d .parent ≡ some p
-      go (inl e) ih = adopted-stay ks (changeAt (under p) x ns) k (subst (λ z. getD (changeAt (under p) z ns) k d .parent ≡ some p) e (ap (λ m. m .parent) (change-at (under p) k d ns l)))
+      go : (k ≡ x) ⊎ (k ≢ x) → (0 < occurs k ks → getD (adopted false p ks (changeAt (under p) x ns)) k d .parent ≡ some p)
+          → getD (adopted false p ks (changeAt (under p) x ns)) k d .parent ≡ some p
+      go (inl e) ih =
+          adopted-stay ks (changeAt (under p) x ns) k (subst (λ z. getD (changeAt (under p) z ns) k d .parent ≡ some p) e
+          (ap (λ m. m .parent) (change-at (under p) k d ns l)))
       go (inr e) ih =
           let a : occurs k (x ∷ ks) ≡ is k x + occurs k ks = occurs-cons k x ks in
           let b : is k x ≡ 0 = is-other k x e in
@@ -79,13 +83,11 @@ module _ (p : ℕ) (d : Node) where
 -- ---- the split
 
 module _ (s : Settings) (t : Tree) (i : ℕ) (l : i < length (t .nodes)) where
-  n : ℕ
-  n = length (t .nodes)
-
   pub split-length : length ((split s i t) .nodes) ≡ suc (length (t .nodes))
   unfolding split parted withNodes
   split-length =
-      adopted-length (length (t .nodes)) blankNode (nodeAt t i .leaf) (moveList s t i) (snoc (set (t .nodes) i (half s t (nodeAt t i) (stayList s t i))) (half s t (nodeAt t i) (moveList s t i)))
+      adopted-length (length (t .nodes)) blankNode (nodeAt t i .leaf) (moveList s t i) (snoc (set (t .nodes) i (half s t (nodeAt t i) (stayList s t i)))
+      (half s t (nodeAt t i) (moveList s t i)))
       ∙ snoc-length (set (t .nodes) i (half s t (nodeAt t i) (stayList s t i))) (half s t (nodeAt t i) (moveList s t i))
       ∙ ap suc (length-set (t .nodes) i (half s t (nodeAt t i) (stayList s t i)))
 
@@ -95,7 +97,8 @@ module _ (s : Settings) (t : Tree) (i : ℕ) (l : i < length (t .nodes)) where
 
   bare-i : getD bare i blankNode ≡ half s t (nodeAt t i) (stayList s t i)
   bare-i =
-      snoc-off (set (t .nodes) i (half s t (nodeAt t i) (stayList s t i))) (half s t (nodeAt t i) (moveList s t i)) blankNode i (λ e. differ (e ∙ length-set (t .nodes) i (half s t (nodeAt t i) (stayList s t i))))
+      snoc-off (set (t .nodes) i (half s t (nodeAt t i) (stayList s t i))) (half s t (nodeAt t i) (moveList s t i)) blankNode i
+      (λ e. differ (e ∙ length-set (t .nodes) i (half s t (nodeAt t i) (stayList s t i))))
       ∙ getD-set-same (t .nodes) i (half s t (nodeAt t i) (stayList s t i)) blankNode l
     where
       differ : i ≡ length (t .nodes) → ⊥
@@ -109,11 +112,14 @@ module _ (s : Settings) (t : Tree) (i : ℕ) (l : i < length (t .nodes)) where
   bare-o : (k : ℕ) → k ≢ i → k ≢ length (t .nodes) → getD bare k blankNode ≡ nodeAt t k
   unfolding nodeAt
   bare-o k d e =
-      snoc-off (set (t .nodes) i (half s t (nodeAt t i) (stayList s t i))) (half s t (nodeAt t i) (moveList s t i)) blankNode k (λ z. e (z ∙ length-set (t .nodes) i (half s t (nodeAt t i) (stayList s t i))))
+      snoc-off (set (t .nodes) i (half s t (nodeAt t i) (stayList s t i))) (half s t (nodeAt t i) (moveList s t i)) blankNode k
+      (λ z. e (z ∙ length-set (t .nodes) i (half s t (nodeAt t i) (stayList s t i))))
       ∙ getD-set-other (t .nodes) i k (half s t (nodeAt t i) (stayList s t i)) blankNode d
 
   bare-length : length bare ≡ suc (length (t .nodes))
-  bare-length = snoc-length (set (t .nodes) i (half s t (nodeAt t i) (stayList s t i))) (half s t (nodeAt t i) (moveList s t i)) ∙ ap suc (length-set (t .nodes) i (half s t (nodeAt t i) (stayList s t i)))
+  bare-length =
+      snoc-length (set (t .nodes) i (half s t (nodeAt t i) (stayList s t i))) (half s t (nodeAt t i) (moveList s t i))
+      ∙ ap suc (length-set (t .nodes) i (half s t (nodeAt t i) (stayList s t i)))
 
   -- what adoption leaves alone, read off the bare list
   split-keeps : {B : Type 0} (g : Node → B) (k : ℕ) → ((q : ℕ) (m : Node) → g (under q m) ≡ g m) → g (nodeAt (split s i t) k) ≡ g (getD bare k blankNode)
@@ -170,17 +176,20 @@ module _ (s : Settings) (t : Tree) (i : ℕ) (l : i < length (t .nodes)) where
     unfolding split parted withNodes nodeAt half
     parent-n′ = ap (λ m. m .parent) (adopted-out (length (t .nodes)) blankNode (nodeAt t i .leaf) (moveList s t i) bare (length (t .nodes)) new ∙ bare-n)
 
-    parent-moved′ : (k : ℕ) → k < length (t .nodes) → nodeAt t i .leaf ≡ false → 0 < occurs k (moveList s t i) → nodeAt (split s i t) k .parent ≡ some (length (t .nodes))
+    parent-moved′ : (k : ℕ) → k < length (t .nodes) → nodeAt t i .leaf ≡ false → 0 < occurs k (moveList s t i)
+        → nodeAt (split s i t) k .parent ≡ some (length (t .nodes))
     unfolding split parted withNodes nodeAt
     parent-moved′ k h f o =
         ap (λ b. getD (adopted b (length (t .nodes)) (moveList s t i) bare) k blankNode .parent) f
         ∙ adopted-in (length (t .nodes)) blankNode (moveList s t i) bare k (subst (λ z. k < z) (sym bare-length) (omega arith)) o
 
-    parent-kept′ : (k : ℕ) → k ≢ length (t .nodes) → (nodeAt t i .leaf ≡ true) ⊎ (occurs k (moveList s t i) ≡ 0) → nodeAt (split s i t) k .parent ≡ nodeAt t k .parent
+    parent-kept′ : (k : ℕ) → k ≢ length (t .nodes) → (nodeAt t i .leaf ≡ true) ⊎ (occurs k (moveList s t i) ≡ 0)
+        → nodeAt (split s i t) k .parent ≡ nodeAt t k .parent
     unfolding split parted withNodes nodeAt
     parent-kept′ k e h = ap (λ m. m .parent) (adopted-out (length (t .nodes)) blankNode (nodeAt t i .leaf) (moveList s t i) bare k h) ∙ bare-parent k e
 
-  pub split-parts : (nodeAt t i .leaf ≡ true) ⊎ (occurs (length (t .nodes)) (moveList s t i) ≡ 0) → 1 < length (nodeAt t i .list) → Parts (nodeAt t) (nodeAt (split s i t)) i (length (t .nodes)) (stayList s t i) (moveList s t i)
+  pub split-parts : (nodeAt t i .leaf ≡ true) ⊎ (occurs (length (t .nodes)) (moveList s t i) ≡ 0) → 1 < length (nodeAt t i .list)
+      → Parts (nodeAt t) (nodeAt (split s i t)) i (length (t .nodes)) (stayList s t i) (moveList s t i)
   split-parts new h =
       let g = two-lists s t i h in
       record {
@@ -192,8 +201,10 @@ module _ (s : Settings) (t : Tree) (i : ℕ) (l : i < length (t .nodes)) where
         parent-n = parent-n′ new;
         parent-moved = parent-moved′ new;
         parent-kept = parent-kept′ new;
-        both = (λ c. ap (λ z. z + occurs c (moveList s t i)) (occurs-over c (stayList s t i)) ∙ ap (λ z. over (is c) (stayList s t i) + z) (occurs-over c (moveList s t i)) ∙ g .sums (is c) ∙ sym (occurs-over c (nodeAt t i .list)));
-        sizes = ap (λ z. z + length (moveList s t i)) (length-over (stayList s t i)) ∙ ap (λ z. over (λ _. 1) (stayList s t i) + z) (length-over (moveList s t i)) ∙ g .sums (λ _. 1) ∙ sym (length-over (nodeAt t i .list));
+        both = (λ c. ap (λ z. z + occurs c (moveList s t i)) (occurs-over c (stayList s t i)) ∙ ap (λ z. over (is c) (stayList s t i) + z)
+            (occurs-over c (moveList s t i)) ∙ g .sums (is c) ∙ sym (occurs-over c (nodeAt t i .list)));
+        sizes = ap (λ z. z + length (moveList s t i)) (length-over (stayList s t i)) ∙ ap (λ z. over (λ _. 1) (stayList s t i) + z)
+            (length-over (moveList s t i)) ∙ g .sums (λ _. 1) ∙ sym (length-over (nodeAt t i .list));
         one-some = g .one-some;
         two-some = g .two-some;
       }
@@ -227,7 +238,8 @@ module _ (s : Settings) (t : Tree) (i j : ℕ) (li : i < length (t .nodes)) (lj 
   told = changeAt (under (length (t .nodes))) j (changeAt (under (length (t .nodes))) i (t .nodes))
 
   told-length : length told ≡ length (t .nodes)
-  told-length = length-change (under (length (t .nodes))) j (changeAt (under (length (t .nodes))) i (t .nodes)) ∙ length-change (under (length (t .nodes))) i (t .nodes)
+  told-length =
+      length-change (under (length (t .nodes))) j (changeAt (under (length (t .nodes))) i (t .nodes)) ∙ length-change (under (length (t .nodes))) i (t .nodes)
 
   abbrev pub topNode : Node
   topNode = record { summary = gathered s t false (i ∷ j ∷ []); list = i ∷ j ∷ []; leaf = false; parent = none }
@@ -244,7 +256,8 @@ module _ (s : Settings) (t : Tree) (i j : ℕ) (li : i < length (t .nodes)) (lj 
   unfolding crowned withRoot withNodes nodeAt
   crowned-told k d = snoc-off told topNode blankNode k (λ e. d (e ∙ told-length))
 
-  crowned-keeps : {B : Type 0} (g : Node → B) (k : ℕ) → k ≢ length (t .nodes) → ((q : ℕ) (m : Node) → g (under q m) ≡ g m) → g (nodeAt (crowned s i j t) k) ≡ g (nodeAt t k)
+  crowned-keeps : {B : Type 0} (g : Node → B) (k : ℕ) → k ≢ length (t .nodes) → ((q : ℕ) (m : Node) → g (under q m) ≡ g m)
+      → g (nodeAt (crowned s i j t) k) ≡ g (nodeAt t k)
   unfolding nodeAt
   crowned-keeps g k d h =
       ap g (crowned-told k d)
@@ -253,11 +266,15 @@ module _ (s : Settings) (t : Tree) (i j : ℕ) (li : i < length (t .nodes)) (lj 
 
   told-o : (k : ℕ) → k ≢ i → k ≢ j → getD told k blankNode ≡ nodeAt t k
   unfolding nodeAt
-  told-o k d e = change-off (under (length (t .nodes))) j k blankNode (changeAt (under (length (t .nodes))) i (t .nodes)) e ∙ change-off (under (length (t .nodes))) i k blankNode (t .nodes) d
+  told-o k d e =
+      change-off (under (length (t .nodes))) j k blankNode (changeAt (under (length (t .nodes))) i (t .nodes)) e
+      ∙ change-off (under (length (t .nodes))) i k blankNode (t .nodes) d
 
   told-j : getD told j blankNode .parent ≡ some (length (t .nodes))
   unfolding under
-  told-j = ap (λ m. m .parent) (change-at (under (length (t .nodes))) j blankNode (changeAt (under (length (t .nodes))) i (t .nodes)) (subst (λ z. j < z) (sym (length-change (under (length (t .nodes))) i (t .nodes))) lj))
+  told-j =
+      ap (λ m. m .parent) (change-at (under (length (t .nodes))) j blankNode (changeAt (under (length (t .nodes))) i (t .nodes))
+      (subst (λ z. j < z) (sym (length-change (under (length (t .nodes))) i (t .nodes))) lj))
 
   told-i : getD told i blankNode .parent ≡ some (length (t .nodes))
   unfolding under

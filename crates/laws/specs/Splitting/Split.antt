@@ -15,7 +15,7 @@ use Rattle.laws.specs.Invariant.Weights.{IsExact, Exactly, exact-count, 
 use Rattle.laws.specs.Counting.Count.{is, below-lt, same?}
 use Rattle.laws.specs.Counting.Sums.{over, sumTo, sum-at, occurs-over}
 use Rattle.laws.specs.Invariant.Links.{Links, held, held-yes, leaf?, nil, kid-in, put}
-use Rattle.laws.specs.Splitting.Torn.{Parts, torn}
+use Rattle.laws.specs.Splitting.Torn.{Parts, torn-links}
 use Rattle.laws.specs.Splitting.Groups.{stayList, moveList, TwoLists, two-lists}
 use Rattle.laws.specs.Splitting.Nodes.{split-parts, split-sum-i, split-sum-n, split-sum-o}
 use Rattle.laws.specs.Invariant.Weigh.{pick, own, Short}
@@ -23,9 +23,6 @@ use Rattle.laws.specs.Splitting.Weighed.{short}
 use Rattle.laws.specs.Invariant.Sound.{Looking, Caps, nodeWeight, entryWeight, weight-pick}
 
 module _ {s : Settings} {t : Tree} {R : ℕ → ℕ} (i : ℕ) {total : ℕ} (g : Looking s t R i total) (l : i < length (t .nodes)) (c : Caps s) where
-  n : ℕ
-  n = length (t .nodes)
-
   -- every member of i's list weighs a whole number
   members : (x : ℕ) → 0 < occurs x (nodeAt t i .list) → IsExact (child t (nodeAt t i .leaf) x)
   unfolding child
@@ -43,7 +40,8 @@ module _ {s : Settings} {t : Tree} {R : ℕ → ℕ} (i : ℕ) {total : ℕ} (g 
   unfolding own
   over-own =
       let a : nodeWeight t i ≡ over (pick (nodeAt t i .leaf) (entryWeight t) (nodeWeight t)) (nodeAt t i .list) = g .weighs .sums i l in
-      let b : over (weightOf t (nodeAt t i .leaf)) (nodeAt t i .list) ≡ over (pick (nodeAt t i .leaf) (entryWeight t) (nodeWeight t)) (nodeAt t i .list) = ap (λ w. over w (nodeAt t i .list)) (weight-pick t (nodeAt t i .leaf)) in
+      let b : over (weightOf t (nodeAt t i .leaf)) (nodeAt t i .list) ≡ over (pick (nodeAt t i .leaf) (entryWeight t) (nodeWeight t)) (nodeAt t i .list) =
+      ap (λ w. over w (nodeAt t i .list)) (weight-pick t (nodeAt t i .leaf)) in
       let d = g .weighs .bound i l in
       let e = g .exact .small in
       omega arith
@@ -59,10 +57,14 @@ module _ {s : Settings} {t : Tree} {R : ℕ → ℕ} (i : ℕ) {total : ℕ} (g 
     in-move x o = let a = lists .sums (is x) in let b = occurs-over x (moveList s t i) in let d = occurs-over x (nodeAt t i .list) in omega arith
 
     stay-exact : Exactly (gathered s t (nodeAt t i .leaf) (stayList s t i)) (over (weightOf t (nodeAt t i .leaf)) (stayList s t i))
-    stay-exact = gather-exact s t (nodeAt t i .leaf) (stayList s t i) (λ x o. members x (in-stay x o)) (let a = lists .sums (weightOf t (nodeAt t i .leaf)) in let b = over-own in omega arith)
+    stay-exact =
+        gather-exact s t (nodeAt t i .leaf) (stayList s t i) (λ x o. members x (in-stay x o)) (let a = lists .sums (weightOf t (nodeAt t i .leaf)) in
+        let b = over-own in omega arith)
 
     move-exact : Exactly (gathered s t (nodeAt t i .leaf) (moveList s t i)) (over (weightOf t (nodeAt t i .leaf)) (moveList s t i))
-    move-exact = gather-exact s t (nodeAt t i .leaf) (moveList s t i) (λ x o. members x (in-move x o)) (let a = lists .sums (weightOf t (nodeAt t i .leaf)) in let b = over-own in omega arith)
+    move-exact =
+        gather-exact s t (nodeAt t i .leaf) (moveList s t i) (λ x o. members x (in-move x o)) (let a = lists .sums (weightOf t (nodeAt t i .leaf)) in
+        let b = over-own in omega arith)
 
     not-new : (nodeAt t i .leaf ≡ true) ⊎ (occurs (length (t .nodes)) (moveList s t i) ≡ 0)
     not-new = go (leaf? (nodeAt t i))
@@ -74,7 +76,8 @@ module _ {s : Settings} {t : Tree} {R : ℕ → ℕ} (i : ℕ) {total : ℕ} (g 
             no : length (t .nodes) < length (t .nodes) → ⊥
             no h = omega arith
 
-            zero? : (occurs (length (t .nodes)) (moveList s t i) ≡ 0) ⊎ (occurs (length (t .nodes)) (moveList s t i) ≢ 0) → occurs (length (t .nodes)) (moveList s t i) ≡ 0
+            zero? : (occurs (length (t .nodes)) (moveList s t i) ≡ 0) ⊎ (occurs (length (t .nodes)) (moveList s t i) ≢ 0)
+                → occurs (length (t .nodes)) (moveList s t i) ≡ 0
             zero? (inl z) = z
             zero? (inr z) = absurd (no (kid-in (g .links) i (length (t .nodes)) l e (in-move (length (t .nodes)) (omega arith)) .0))
 
@@ -103,13 +106,18 @@ module _ {s : Settings} {t : Tree} {R : ℕ → ℕ} (i : ℕ) {total : ℕ} (g 
     short-of = short (nodeWeight (split s i t))
         (g .links) l parts-of (g .weighs) w-i w-n w-o (lists .sums (pick (nodeAt t i .leaf) (entryWeight t) (nodeWeight t)))
 
-    pub torn-of : Links s (nodeAt (split s i t)) (suc (length (t .nodes))) (t .root) (length (t .entries)) (put R (length (t .nodes)) (R i)) nil (is (suc (R i))) (is (length (t .nodes)))
-    torn-of = torn (g .links) l parts-of
+    pub torn-of : Links s (nodeAt (split s i t)) (suc (length (t .nodes))) (t .root) (length (t .entries)) (put R (length (t .nodes)) (R i)) nil
+        (is (suc (R i))) (is (length (t .nodes)))
+    torn-of = torn-links (g .links) l parts-of
 
     pub split-exact : (k : ℕ) → k < suc (length (t .nodes)) → IsExact (nodeAt (split s i t) k .summary)
     split-exact k h = go (same? k i) (same? k (length (t .nodes)))
       where
         go : (k ≡ i) ⊎ (k ≢ i) → (k ≡ length (t .nodes)) ⊎ (k ≢ length (t .nodes)) → IsExact (nodeAt (split s i t) k .summary)
-        go (inl e) q = subst (λ z. IsExact (nodeAt (split s i t) z .summary)) (sym e) (subst (λ m. IsExact m) (sym (split-sum-i s t i l)) (exact-is (gathered s t (nodeAt t i .leaf) (stayList s t i)) (over (weightOf t (nodeAt t i .leaf)) (stayList s t i)) stay-exact))
-        go (inr e) (inl q) = subst (λ z. IsExact (nodeAt (split s i t) z .summary)) (sym q) (subst (λ m. IsExact m) (sym (split-sum-n s t i l)) (exact-is (gathered s t (nodeAt t i .leaf) (moveList s t i)) (over (weightOf t (nodeAt t i .leaf)) (moveList s t i)) move-exact))
+        go (inl e) q =
+            subst (λ z. IsExact (nodeAt (split s i t) z .summary)) (sym e) (subst (λ m. IsExact m) (sym (split-sum-i s t i l))
+            (exact-is (gathered s t (nodeAt t i .leaf) (stayList s t i)) (over (weightOf t (nodeAt t i .leaf)) (stayList s t i)) stay-exact))
+        go (inr e) (inl q) =
+            subst (λ z. IsExact (nodeAt (split s i t) z .summary)) (sym q) (subst (λ m. IsExact m) (sym (split-sum-n s t i l))
+            (exact-is (gathered s t (nodeAt t i .leaf) (moveList s t i)) (over (weightOf t (nodeAt t i .leaf)) (moveList s t i)) move-exact))
         go (inr e) (inr q) = subst (λ m. IsExact m) (sym (split-sum-o s t i l k e q)) (g .exact .at-node k (omega arith))

@@ -2,7 +2,7 @@
 use Prim.Native.Nat.{ℕ, suc, _+_, _-_, _≤_, _<_}
 use mathlib.Core.Path.{_≡_, refl, sym, ap, _∙_, subst}
 use mathlib.Core.Logic.{_⊎_, inl, inr, _≢_}
-use mathlib.Core.Bool.{true, false, cond}
+use mathlib.Core.Bool.{Bool, true, false, cond}
 use mathlib.Core.List.{List}
 use mathlib.Core.Option.{none, some, Option·some-injective}
 use native.Mathlib.Nat.{suc-inj, lt-irrefl}
@@ -13,7 +13,7 @@ use Rattle.rules.specs.Lists.{occurs}
 use Rattle.rules.specs.Tree.{Node, cap}
 use Rattle.laws.specs.Counting.Sums.{sumTo, sum-part}
 use Rattle.laws.specs.Counting.Count.{is, is-same, is-other, below, below-suc, same?, lt-ne}
-use Rattle.laws.specs.Invariant.Links.{Links, inner, held, inner-no, inner-yes, held-no, held-yes, leaf?, nil, rankCount, kid-in, rank-some, put, put-at, put-off, rank-put}
+use Rattle.laws.specs.Invariant.Links.{Links, inner, held, leaf?, nil, rankCount, kid-in, rank-some, put, put-at, put-off, rank-put}
 
 -- B is A with node i's list parted: one stays at i, two is at the new node n, and moved inner nodes name n as their parent
 pub record Parts (A B : ℕ → Node) (i n : ℕ) (one two : List ℕ) : Type 0 where
@@ -30,10 +30,8 @@ pub record Parts (A B : ℕ → Node) (i n : ℕ) (one two : List ℕ) : Type 0 
   pub one-some : 0 < length one
   pub two-some : 0 < length two
 
-module _ {s : Settings} {A B : ℕ → Node} {n root es : ℕ} {R : ℕ → ℕ} {i : ℕ} {one two : List ℕ} (g : Links s A n root es R (is i) (is (R i)) nil) (l : i < n) (p : Parts A B i n one two) where
-  Q : ℕ → ℕ
-  Q = put R n (R i)
-
+module _ {s : Settings} {A B : ℕ → Node} {n root es : ℕ} {R : ℕ → ℕ} {i : ℕ} {one two : List ℕ} (g : Links s A n root es R (is i) (is (R i)) nil) (l : i < n)
+    (p : Parts A B i n one two) where
   -- which of the three a node is
   which : (k : ℕ) → k < suc n → (k ≡ i) ⊎ ((k ≡ n) ⊎ ((k < n) × (k ≢ i)))
   which k h = go (same? k i) (same? k n)
@@ -105,47 +103,38 @@ module _ {s : Settings} {A B : ℕ → Node} {n root es : ℕ} {R : ℕ → ℕ}
 
   inner-o : (c k : ℕ) → k < n → k ≢ i → inner (B k) c ≡ inner (A k) c
   unfolding inner
-  inner-o c k h d = ap (λ b. cond b 0 (occurs c (B k .list))) (p .leaf-o k (lt-ne k n h)) ∙ ap (λ z. cond (A k .leaf) 0 (occurs c z)) (p .kids-o k d (lt-ne k n h))
+  inner-o c k h d =
+      ap (λ b. cond b 0 (occurs c (B k .list))) (p .leaf-o k (lt-ne k n h)) ∙ ap (λ z. cond (A k .leaf) 0 (occurs c z)) (p .kids-o k d (lt-ne k n h))
 
   held-o : (c k : ℕ) → k < n → k ≢ i → held (B k) c ≡ held (A k) c
   unfolding held
-  held-o c k h d = ap (λ b. cond b (occurs c (B k .list)) 0) (p .leaf-o k (lt-ne k n h)) ∙ ap (λ z. cond (A k .leaf) (occurs c z) 0) (p .kids-o k d (lt-ne k n h))
+  held-o c k h d =
+      ap (λ b. cond b (occurs c (B k .list)) 0) (p .leaf-o k (lt-ne k n h)) ∙ ap (λ z. cond (A k .leaf) (occurs c z) 0) (p .kids-o k d (lt-ne k n h))
+
+  -- the halves list what the node listed
+  halves : (c : ℕ) → occurs c (B i .list) + occurs c (B n .list) ≡ occurs c (A i .list)
+  halves c = rw (p .kids-i, p .kids-n) (p .both c)
 
   inner-both : (c : ℕ) → inner (B i) c + inner (B n) c ≡ inner (A i) c
-  inner-both c = go (leaf? (A i))
+  unfolding inner
+  inner-both c = rw (leaf-i, p .leaf-n) (go (A i .leaf))
     where
-      go : (A i .leaf ≡ true) ⊎ (A i .leaf ≡ false) → inner (B i) c + inner (B n) c ≡ inner (A i) c
-      go (inl t) =
-          let a = inner-no (A i) c t in
-          let b = inner-no (B i) c (leaf-i ∙ t) in
-          let d = inner-no (B n) c (p .leaf-n ∙ t) in
-          omega arith
-      go (inr t) =
-          let a = inner-yes (A i) c t in
-          let b : inner (B i) c ≡ occurs c one = inner-yes (B i) c (leaf-i ∙ t) ∙ ap (λ z. occurs c z) (p .kids-i) in
-          let d : inner (B n) c ≡ occurs c two = inner-yes (B n) c (p .leaf-n ∙ t) ∙ ap (λ z. occurs c z) (p .kids-n) in
-          let e : occurs c one + occurs c two ≡ occurs c (A i .list) = p .both c in
-          omega arith
+      go : (b : Bool) → cond b 0 (occurs c (B i .list)) + cond b 0 (occurs c (B n .list)) ≡ cond b 0 (occurs c (A i .list))
+      go true = refl
+      go false = halves c
 
   held-both : (c : ℕ) → held (B i) c + held (B n) c ≡ held (A i) c
-  held-both c = go (leaf? (A i))
+  unfolding held
+  held-both c = rw (leaf-i, p .leaf-n) (go (A i .leaf))
     where
-      go : (A i .leaf ≡ true) ⊎ (A i .leaf ≡ false) → held (B i) c + held (B n) c ≡ held (A i) c
-      go (inr t) =
-          let a = held-no (A i) c t in
-          let b = held-no (B i) c (leaf-i ∙ t) in
-          let d = held-no (B n) c (p .leaf-n ∙ t) in
-          omega arith
-      go (inl t) =
-          let a = held-yes (A i) c t in
-          let b : held (B i) c ≡ occurs c one = held-yes (B i) c (leaf-i ∙ t) ∙ ap (λ z. occurs c z) (p .kids-i) in
-          let d : held (B n) c ≡ occurs c two = held-yes (B n) c (p .leaf-n ∙ t) ∙ ap (λ z. occurs c z) (p .kids-n) in
-          let e : occurs c one + occurs c two ≡ occurs c (A i .list) = p .both c in
-          omega arith
+      go : (b : Bool) → cond b (occurs c (B i .list)) 0 + cond b (occurs c (B n .list)) 0 ≡ cond b (occurs c (A i .list)) 0
+      go true = halves c
+      go false = refl
 
   torn-nodes : (c : ℕ) → is c root + is n c + sumTo (λ k. inner (B k) c) (suc n) ≡ below c (suc n)
   torn-nodes c =
-      let a : sumTo (λ k. inner (B k) c) (suc n) ≡ sumTo (λ k. inner (A k) c) n = sum-part (λ k. inner (A k) c) (λ k. inner (B k) c) i n l (λ k h d. inner-o c k h d) (inner-both c) in
+      let a : sumTo (λ k. inner (B k) c) (suc n) ≡ sumTo (λ k. inner (A k) c) n =
+      sum-part (λ k. inner (A k) c) (λ k. inner (B k) c) i n l (λ k h d. inner-o c k h d) (inner-both c) in
       let b : is c root + 0 + sumTo (λ k. inner (A k) c) n ≡ below c n = g .nodes-once c in
       let d = below-suc c n in
       let e : is n c ≡ is c n = flipped (same? n c) in
@@ -217,7 +206,8 @@ module _ {s : Settings} {A B : ℕ → Node} {n root es : ℕ} {R : ℕ → ℕ}
       d : rankCount R n (suc r) + is (R i) (suc r) ≤ rankCount R n r - 1
       d = g .grows r
 
-      go : (suc r ≡ R i) ⊎ (suc r ≢ R i) → (r ≡ R i) ⊎ (r ≢ R i) → rankCount (put R n (R i)) (suc n) (suc r) + is (suc (R i)) (suc r) ≤ rankCount (put R n (R i)) (suc n) r - 1
+      go : (suc r ≡ R i) ⊎ (suc r ≢ R i) → (r ≡ R i) ⊎ (r ≢ R i) → rankCount (put R n (R i)) (suc n) (suc r) + is (suc (R i)) (suc r)
+          ≤ rankCount (put R n (R i)) (suc n) r - 1
       go (inl e) q =
           let u : is (suc r) (R i) ≡ 1 = is-same (suc r) (R i) e in
           let v : is (R i) (suc r) ≡ 1 = is-same (R i) (suc r) (sym e) in
@@ -251,8 +241,9 @@ module _ {s : Settings} {A B : ℕ → Node} {n root es : ℕ} {R : ℕ → ℕ}
               let b : occurs root one + occurs root two ≡ occurs root (A i .list) = p .both root in
               absurd (kid-in g i root l t (omega arith) .2 refl)
 
-  pub torn : Links s B (suc n) root es (put R n (R i)) nil (is (suc (R i))) (is n)
-  torn = record {
+  -- the links after it, the second half an orphan
+  pub torn-links : Links s B (suc n) root es (put R n (R i)) nil (is (suc (R i))) (is n)
+  torn-links = record {
     root-in = (let h = g .root-in in omega arith);
     root-top = torn-root;
     kid = torn-kid;

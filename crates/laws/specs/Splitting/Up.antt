@@ -18,16 +18,18 @@ use Rattle.laws.specs.Counting.Count.{is, is-other, same?, lt-ne}
 use Rattle.laws.specs.Counting.Sums.{over, occurs-cons}
 use Rattle.laws.specs.Invariant.Links.{Links, leaf?, nil, parent-lists, no-parent, put, put-at, put-off}
 use Rattle.laws.specs.Splitting.Torn.{Parts}
-use Rattle.laws.specs.Splitting.Tied.{tied}
-use Rattle.laws.specs.Splitting.Crown.{crown}
+use Rattle.laws.specs.Splitting.Tied.{tied-links}
+use Rattle.laws.specs.Splitting.Crown.{crowned-links}
 use Rattle.laws.specs.Splitting.Groups.{stayList, moveList}
-use Rattle.laws.specs.Splitting.Nodes.{split-length, extended, extend-added, extend-sum, extend-length, crowned-length, crowned-n, crowned-sum, crowned-parts}
+use Rattle.laws.specs.Splitting.Nodes.{split-length, extended, extend-added, extend-sum, extend-length}
+use Rattle.laws.specs.Splitting.Nodes.{crowned-length, crowned-n, crowned-sum, crowned-parts}
 use Rattle.laws.specs.Invariant.Weigh.{Weighs, Short}
 use Rattle.laws.specs.Splitting.Weighed.{tied-weighs, crown-weighs}
 use Rattle.laws.specs.Invariant.Sound.{entryWeight, nodeWeight, Settled, Looking, Caps, cap-some}
 use Rattle.laws.specs.Splitting.Split.{parts-of, short-of, torn-of, split-exact}
 
-module _ {s : Settings} {t : Tree} {R : ℕ → ℕ} (i : ℕ) {total : ℕ} (g : Looking s t R i total) (l : i < length (t .nodes)) (c : Caps s) (many : 1 < length (nodeAt t i .list)) where
+module _ {s : Settings} {t : Tree} {R : ℕ → ℕ} (i : ℕ) {total : ℕ} (g : Looking s t R i total) (l : i < length (t .nodes)) (c : Caps s)
+    (many : 1 < length (nodeAt t i .list)) where
   Q : ℕ → ℕ
   Q = put R (length (t .nodes)) (R i)
 
@@ -46,11 +48,16 @@ module _ {s : Settings} {t : Tree} {R : ℕ → ℕ} (i : ℕ) {total : ℕ} (g 
   lj : length (t .nodes) < length ((split s i t) .nodes)
   lj = let h = len in omega arith
 
-  torn′ : Links s (nodeAt (split s i t)) (length ((split s i t) .nodes)) (t .root) (length (t .entries)) (put R (length (t .nodes)) (R i)) nil (is (suc (R i))) (is (length (t .nodes)))
-  torn′ = subst (λ m. Links s (nodeAt (split s i t)) m (t .root) (length (t .entries)) (put R (length (t .nodes)) (R i)) nil (is (suc (R i))) (is (length (t .nodes)))) (sym len) (torn-of i g l c many)
+  torn′ : Links s (nodeAt (split s i t)) (length ((split s i t) .nodes)) (t .root) (length (t .entries)) (put R (length (t .nodes)) (R i)) nil
+      (is (suc (R i))) (is (length (t .nodes)))
+  torn′ =
+      subst (λ m. Links s (nodeAt (split s i t)) m (t .root) (length (t .entries)) (put R (length (t .nodes)) (R i)) nil (is (suc (R i)))
+      (is (length (t .nodes)))) (sym len) (torn-of i g l c many)
 
   short′ : Short (nodeAt (split s i t)) (entryWeight t) (nodeWeight (split s i t)) (length ((split s i t) .nodes)) (t .root) total i (length (t .nodes))
-  short′ = subst (λ m. Short (nodeAt (split s i t)) (entryWeight t) (nodeWeight (split s i t)) m (t .root) total i (length (t .nodes))) (sym len) (short-of i g l c many)
+  short′ =
+      subst (λ m. Short (nodeAt (split s i t)) (entryWeight t) (nodeWeight (split s i t)) m (t .root) total i (length (t .nodes))) (sym len)
+      (short-of i g l c many)
 
   parts : Parts (nodeAt t) (nodeAt (split s i t)) i (length (t .nodes)) (stayList s t i) (moveList s t i)
   parts = parts-of i g l c many
@@ -75,13 +82,18 @@ module _ {s : Settings} {t : Tree} {R : ℕ → ℕ} (i : ℕ) {total : ℕ} (g 
     i-root : i ≡ t .root
     i-root = no-parent (g .links) i l refl orphan
 
-    links₀ : Links s (nodeAt (split s i t)) (length ((split s i t) .nodes)) i (length (t .entries)) (put R (length (t .nodes)) (R i)) nil (is (suc (put R (length (t .nodes)) (R i) i))) (is (length (t .nodes)))
+    links₀ : Links s (nodeAt (split s i t)) (length ((split s i t) .nodes)) i (length (t .entries)) (put R (length (t .nodes)) (R i)) nil
+        (is (suc (put R (length (t .nodes)) (R i) i))) (is (length (t .nodes)))
     links₀ =
-        subst (λ r. Links s (nodeAt (split s i t)) (length ((split s i t) .nodes)) r (length (t .entries)) (put R (length (t .nodes)) (R i)) nil (is (suc (put R (length (t .nodes)) (R i) i))) (is (length (t .nodes)))) (sym i-root)
-        (subst (λ q. Links s (nodeAt (split s i t)) (length ((split s i t) .nodes)) (t .root) (length (t .entries)) (put R (length (t .nodes)) (R i)) nil (is (suc q)) (is (length (t .nodes)))) (sym (at-old i l)) torn′)
+        subst (λ r. Links s (nodeAt (split s i t)) (length ((split s i t) .nodes)) r (length (t .entries)) (put R (length (t .nodes)) (R i)) nil
+        (is (suc (put R (length (t .nodes)) (R i) i))) (is (length (t .nodes)))) (sym i-root)
+        (subst (λ q. Links s (nodeAt (split s i t)) (length ((split s i t) .nodes)) (t .root) (length (t .entries)) (put R (length (t .nodes)) (R i)) nil
+        (is (suc q)) (is (length (t .nodes)))) (sym (at-old i l)) torn′)
 
     short₀ : Short (nodeAt (split s i t)) (entryWeight t) (nodeWeight (split s i t)) (length ((split s i t) .nodes)) i total i (length (t .nodes))
-    short₀ = subst (λ r. Short (nodeAt (split s i t)) (entryWeight t) (nodeWeight (split s i t)) (length ((split s i t) .nodes)) r total i (length (t .nodes))) (sym i-root) short′
+    short₀ =
+        subst (λ r. Short (nodeAt (split s i t)) (entryWeight t) (nodeWeight (split s i t)) (length ((split s i t) .nodes)) r total i (length (t .nodes)))
+        (sym i-root) short′
 
     u : Tree
     u = split s i t
@@ -123,7 +135,7 @@ module _ {s : Settings} {t : Tree} {R : ℕ → ℕ} (i : ℕ) {total : ℕ} (g 
 
     links₁ : Links s (nodeAt done) (suc (length ((split s i t) .nodes))) (length ((split s i t) .nodes)) (length (t .entries)) R₀ nil nil nil
     unfolding R₀
-    links₁ = crown links₀
+    links₁ = crowned-links links₀
         (crowned-parts s (split s i t) i (length (t .nodes)) li lj) lj (at-new ∙ sym (at-old i l)) (c .inners)
 
     weighs₁ : Weighs (nodeAt done) (entryWeight t) (nodeWeight done) (suc (length ((split s i t) .nodes))) (length ((split s i t) .nodes)) total
@@ -134,9 +146,13 @@ module _ {s : Settings} {t : Tree} {R : ℕ → ℕ} (i : ℕ) {total : ℕ} (g 
     exact₁ k h = go (same? k (length ((split s i t) .nodes)))
       where
         go : (k ≡ length ((split s i t) .nodes)) ⊎ (k ≢ length ((split s i t) .nodes)) → IsExact (nodeAt done k .summary)
-        go (inl e) = subst (λ z. IsExact (nodeAt done z .summary)) (sym e) (subst (λ m. IsExact (m .summary)) (sym (crowned-n s (split s i t) i (length (t .nodes)) li lj))
-            (exact-is (gathered s (split s i t) false (i ∷ length (t .nodes) ∷ [])) (over (weightOf (split s i t) false) (i ∷ length (t .nodes) ∷ [])) exact-top))
-        go (inr d) = subst (λ m. IsExact m) (sym (crowned-sum s (split s i t) i (length (t .nodes)) li lj k d)) (split-exact i g l c many k (let q = len in omega arith))
+        go (inl e) =
+            subst (λ z. IsExact (nodeAt done z .summary)) (sym e)
+            (subst (λ m. IsExact (m .summary)) (sym (crowned-n s (split s i t) i (length (t .nodes)) li lj))
+            (exact-is (gathered s (split s i t) false (i ∷ length (t .nodes) ∷ [])) (over (weightOf (split s i t) false) (i ∷ length (t .nodes) ∷ []))
+            exact-top))
+        go (inr d) =
+            subst (λ m. IsExact m) (sym (crowned-sum s (split s i t) i (length (t .nodes)) li lj k d)) (split-exact i g l c many k (let q = len in omega arith))
 
     done-length : length (done .nodes) ≡ suc (length ((split s i t) .nodes))
     done-length = crowned-length s (split s i t) i (length (t .nodes)) li lj
@@ -145,7 +161,12 @@ module _ {s : Settings} {t : Tree} {R : ℕ → ℕ} (i : ℕ) {total : ℕ} (g 
     unfolding crowned split parted withNodes withRoot entryWeight entryAt
     crowned-settled = record {
       links = subst (λ m. Links s (nodeAt done) m (length ((split s i t) .nodes)) (length (t .entries)) R₀ nil nil nil) (sym done-length) links₁;
-      exact = record { at-node = subst (λ m. (k : ℕ) → k < m → IsExact (nodeAt done k .summary)) (sym done-length) exact₁; at-entry = g .exact .at-entry; some-entry = g .exact .some-entry; small = g .exact .small };
+      exact = record {
+        at-node = subst (λ m. (k : ℕ) → k < m → IsExact (nodeAt done k .summary)) (sym done-length) exact₁;
+        at-entry = g .exact .at-entry;
+        some-entry = g .exact .some-entry;
+        small = g .exact .small;
+      };
       weighs = subst (λ m. Weighs (nodeAt done) (entryWeight t) (nodeWeight done) m (length ((split s i t) .nodes)) total) (sym done-length) weighs₁;
     }
 
@@ -155,7 +176,8 @@ module _ {s : Settings} {t : Tree} {R : ℕ → ℕ} (i : ℕ) {total : ℕ} (g 
     i≢n : i ≢ length (t .nodes)
     i≢n = lt-ne i (length (t .nodes)) l
 
-    Entry : (p < length ((split s i t) .nodes)) × (nodeAt (split s i t) p .leaf ≡ false) × (occurs i (nodeAt (split s i t) p .list) ≡ 1) × (put R (length (t .nodes)) (R i) p ≡ suc (put R (length (t .nodes)) (R i) i))
+    Entry : (p < length ((split s i t) .nodes)) × (nodeAt (split s i t) p .leaf ≡ false) × (occurs i (nodeAt (split s i t) p .list) ≡ 1)
+        × (put R (length (t .nodes)) (R i) p ≡ suc (put R (length (t .nodes)) (R i) i))
     Entry = parent-lists torn′ i p li
         (is-other (length (t .nodes)) i (λ e. i≢n (sym e))) (parent-i ∙ child-of)
 
@@ -175,9 +197,11 @@ module _ {s : Settings} {t : Tree} {R : ℕ → ℕ} (i : ℕ) {total : ℕ} (g 
     pub next-in : p < length ((extended p (length (t .nodes)) (split s i t)) .nodes)
     next-in = subst (λ m. p < m) (sym next-length) (Entry .0)
 
-    links₂ : Links s (nodeAt next) (length ((split s i t) .nodes)) (t .root) (length (t .entries)) (put R (length (t .nodes)) (R i)) (is p) (is (put R (length (t .nodes)) (R i) p)) nil
-    links₂ = tied (suc (R i)) torn′
-        (extend-added (split s i t) p (length (t .nodes)) (Entry .0)) (Entry .0) lj (Entry .1) (parts .parent-n ∙ child-of) (next-rank ∙ ap suc (sym at-new)) (sym next-rank)
+    links₂ : Links s (nodeAt next) (length ((split s i t) .nodes)) (t .root) (length (t .entries)) (put R (length (t .nodes)) (R i)) (is p)
+        (is (put R (length (t .nodes)) (R i) p)) nil
+    links₂ = tied-links (suc (R i)) torn′
+        (extend-added (split s i t) p (length (t .nodes)) (Entry .0)) (Entry .0) lj (Entry .1) (parts .parent-n ∙ child-of) (next-rank ∙ ap suc (sym at-new))
+        (sym next-rank)
 
     same-weight : (k : ℕ) → nodeWeight next k ≡ nodeWeight (split s i t) k
     unfolding nodeWeight
@@ -185,14 +209,17 @@ module _ {s : Settings} {t : Tree} {R : ℕ → ℕ} (i : ℕ) {total : ℕ} (g 
 
     weighs₂ : Weighs (nodeAt next) (entryWeight t) (nodeWeight next) (length ((split s i t) .nodes)) (t .root) total
     weighs₂ = tied-weighs (suc (R i))
-        (nodeWeight next) torn′ (extend-added (split s i t) p (length (t .nodes)) (Entry .0)) (Entry .0) li (Entry .1) i≢n (parent-i ∙ child-of) short′ same-weight
+        (nodeWeight next) torn′ (extend-added (split s i t) p (length (t .nodes)) (Entry .0)) (Entry .0) li (Entry .1) i≢n (parent-i ∙ child-of) short′
+        same-weight
 
     pub next-looking : Looking s (extended p (length (t .nodes)) (split s i t)) (put R (length (t .nodes)) (R i)) p total
     unfolding split parted withNodes withRoot entryWeight entryAt
     next-looking = record {
-      links = subst (λ m. Links s (nodeAt next) m (t .root) (length (t .entries)) (put R (length (t .nodes)) (R i)) (is p) (is (put R (length (t .nodes)) (R i) p)) nil) (sym next-length) links₂;
+      links = subst (λ m. Links s (nodeAt next) m (t .root) (length (t .entries)) (put R (length (t .nodes)) (R i)) (is p)
+          (is (put R (length (t .nodes)) (R i) p)) nil) (sym next-length) links₂;
       exact = record {
-        at-node = subst (λ m. (k : ℕ) → k < m → IsExact (nodeAt next k .summary)) (sym (next-length ∙ len)) (λ k h. subst (λ m. IsExact m) (sym (extend-sum (split s i t) p (length (t .nodes)) k)) (split-exact i g l c many k h));
+        at-node = subst (λ m. (k : ℕ) → k < m → IsExact (nodeAt next k .summary)) (sym (next-length ∙ len))
+            (λ k h. subst (λ m. IsExact m) (sym (extend-sum (split s i t) p (length (t .nodes)) k)) (split-exact i g l c many k h));
         at-entry = g .exact .at-entry;
         some-entry = g .exact .some-entry;
         small = g .exact .small;
@@ -202,7 +229,8 @@ module _ {s : Settings} {t : Tree} {R : ℕ → ℕ} (i : ℕ) {total : ℕ} (g 
 
 -- ---- a node that fits: settled
 
-pub at-rest : (s : Settings) (t : Tree) (R : ℕ → ℕ) (i total : ℕ) → Looking s t R i total → length (nodeAt t i .list) ≤ cap s (nodeAt t i .leaf) → Settled s t R total
+pub at-rest : (s : Settings) (t : Tree) (R : ℕ → ℕ) (i total : ℕ) → Looking s t R i total → length (nodeAt t i .list) ≤ cap s (nodeAt t i .leaf)
+    → Settled s t R total
 at-rest s t R i total g h = record {
   links = record {
     root-in = g .links .root-in;
@@ -229,7 +257,8 @@ at-rest s t R i total g h = record {
 abbrev pub Restored : Settings → Tree → ℕ → Type 0
 Restored s t total = (Q : ℕ → ℕ) × Settled s t Q total
 
-pub split-up : (s : Settings) (k i : ℕ) (t : Tree) (R : ℕ → ℕ) (total : ℕ) → Caps s → Looking s t R i total → i < length (t .nodes) → R (t .root) < R i + k → Restored s (splitUp s k i t) total
+pub split-up : (s : Settings) (k i : ℕ) (t : Tree) (R : ℕ → ℕ) (total : ℕ) → Caps s → Looking s t R i total → i < length (t .nodes) → R (t .root) < R i + k
+    → Restored s (splitUp s k i t) total
 unfolding splitUp splitIf splitNext fitting
 split-up s zero i t R total c g l f = let h = g .links .top i l in absurd (omega arith)
 split-up s (suc k) i t R total c g l f = go (fitting s t i) refl (λ p u Q h q e. split-up s k p u Q total c h q e)
@@ -246,4 +275,6 @@ split-up s (suc k) i t R total c g l f = go (fitting s t i) refl (λ p u Q h q e
         → ((p : ℕ) (u : Tree) (Q : ℕ → ℕ) → Looking s u Q p total → p < length (u .nodes) → Q (u .root) < Q p + k → Restored s (splitUp s k p u) total)
         → Restored s (splitIf s (λ p u. splitUp s k p u) i b t) total
     go true e ih = (R, at-rest s t R i total g (leb→le (length (nodeAt t i .list)) (cap s (nodeAt t i .leaf)) (subst T (sym e) tt)))
-    go false e ih = next (nodeAt t i .parent) refl (let h = nleb→lt (length (nodeAt t i .list)) (cap s (nodeAt t i .leaf)) (subst (λ b. T (not b)) (sym e) tt) in let q = cap-some s (nodeAt t i .leaf) c in omega arith) ih
+    go false e ih =
+        next (nodeAt t i .parent) refl (let h = nleb→lt (length (nodeAt t i .list)) (cap s (nodeAt t i .leaf)) (subst (λ b. T (not b)) (sym e) tt) in
+        let q = cap-some s (nodeAt t i .leaf) c in omega arith) ih

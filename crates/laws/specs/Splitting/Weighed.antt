@@ -17,7 +17,10 @@ use Rattle.laws.specs.Splitting.Tied.{Added}
 use Rattle.laws.specs.Splitting.Crown.{Crowned}
 use Rattle.laws.specs.Invariant.Weigh.{Short, Weighs, pick, own, own-leaf, own-inner}
 
-module _ {s : Settings} {A B : ℕ → Node} {n root es : ℕ} {R : ℕ → ℕ} {i : ℕ} {one two : List ℕ} {E W : ℕ → ℕ} (U : ℕ → ℕ) {total : ℕ} (g : Links s A n root es R (is i) (is (R i)) nil) (l : i < n) (p : Parts A B i n one two) (w : Weighs A E W n root total) (u-i : U i ≡ over (pick (A i .leaf) E W) one) (u-n : U n ≡ over (pick (A i .leaf) E W) two) (u-o : (k : ℕ) → k ≢ i → k ≢ n → U k ≡ W k) (parts : over (pick (A i .leaf) E W) one + over (pick (A i .leaf) E W) two ≡ over (pick (A i .leaf) E W) (A i .list)) where
+module _ {s : Settings} {A B : ℕ → Node} {n root es : ℕ} {R : ℕ → ℕ} {i : ℕ} {one two : List ℕ} {E W : ℕ → ℕ} (U : ℕ → ℕ) {total : ℕ}
+    (g : Links s A n root es R (is i) (is (R i)) nil) (l : i < n) (p : Parts A B i n one two) (w : Weighs A E W n root total)
+    (u-i : U i ≡ over (pick (A i .leaf) E W) one) (u-n : U n ≡ over (pick (A i .leaf) E W) two) (u-o : (k : ℕ) → k ≢ i → k ≢ n → U k ≡ W k)
+    (parts : over (pick (A i .leaf) E W) one + over (pick (A i .leaf) E W) two ≡ over (pick (A i .leaf) E W) (A i .list)) where
   -- the halves weigh what the node did
   pub halves : U i + U n ≡ W i
   unfolding own
@@ -109,7 +112,8 @@ module _ {s : Settings} {A B : ℕ → Node} {n root es : ℕ} {R : ℕ → ℕ}
       go (inl e) = let q = inner-no (B k) i (p .leaf-o k (lt-ne k n h) ∙ e) in absurd (omega arith)
       go (inr e) =
           let a : own (B k) E U ≡ over U (A k .list) = same-own k h d ∙ own-inner (A k) E U e in
-          let b : over U (A k .list) + W i ≡ over W (A k .list) + U i = over-once U W i (A k .list) (sym (same-inner k h d e) ∙ o) (λ c q z. u-o c z (lt-ne c n (kid-in g k c h e q .0))) in
+          let b : over U (A k .list) + W i ≡ over W (A k .list) + U i =
+          over-once U W i (A k .list) (sym (same-inner k h d e) ∙ o) (λ c q z. u-o c z (lt-ne c n (kid-in g k c h e q .0))) in
           let m : W k ≡ over W (A k .list) = w .sums k h ∙ own-inner (A k) E W e in
           let v : U k ≡ W k = u-o k d (lt-ne k n h) in
           let x = halves in
@@ -141,7 +145,9 @@ module _ {s : Settings} {A B : ℕ → Node} {n root es : ℕ} {R : ℕ → ℕ}
 
 -- ---- the parent lists the new half
 
-module _ {s : Settings} {A B : ℕ → Node} {n root es : ℕ} {R : ℕ → ℕ} (q : ℕ) {p i j : ℕ} {E W : ℕ → ℕ} (U : ℕ → ℕ) {total : ℕ} (g : Links s A n root es R nil (is q) (is j)) (b : Added A B p j) (lp : p < n) (li : i < n) (fp : A p .leaf ≡ false) (ji : i ≢ j) (pi : A i .parent ≡ some p) (w : Short A E W n root total i j) (same : (k : ℕ) → U k ≡ W k) where
+module _ {s : Settings} {A B : ℕ → Node} {n root es : ℕ} {R : ℕ → ℕ} (q : ℕ) {p i j : ℕ} {E W : ℕ → ℕ} (U : ℕ → ℕ) {total : ℕ}
+    (g : Links s A n root es R nil (is q) (is j)) (b : Added A B p j) (lp : p < n) (li : i < n) (fp : A p .leaf ≡ false) (ji : i ≢ j)
+    (pi : A i .parent ≡ some p) (w : Short A E W n root total i j) (same : (k : ℕ) → U k ≡ W k) where
   change-own : (m : Node) → own m E U ≡ own m E W
   unfolding own pick
   change-own m = go (m .leaf)
@@ -190,11 +196,14 @@ module _ {s : Settings} {A B : ℕ → Node} {n root es : ℕ} {R : ℕ → ℕ}
 
 -- ---- a new root lists both halves
 
-module _ {s : Settings} {A B : ℕ → Node} {n i es : ℕ} {R : ℕ → ℕ} (q : ℕ) {j : ℕ} {E W : ℕ → ℕ} (U : ℕ → ℕ) {total : ℕ} (g : Links s A n i es R nil (is q) (is j)) (b : Crowned A B i j n) (lj : j < n) (w : Short A E W n i total i j) (same : (k : ℕ) → k ≢ n → U k ≡ W k) (u-n : U n ≡ W i + W j) where
+module _ {s : Settings} {A B : ℕ → Node} {n i es : ℕ} {R : ℕ → ℕ} (q : ℕ) {j : ℕ} {E W : ℕ → ℕ} (U : ℕ → ℕ) {total : ℕ}
+    (g : Links s A n i es R nil (is q) (is j)) (b : Crowned A B i j n) (lj : j < n) (w : Short A E W n i total i j) (same : (k : ℕ) → k ≢ n → U k ≡ W k)
+    (u-n : U n ≡ W i + W j) where
   crown-own : (k : ℕ) → k < n → own (B k) E U ≡ own (A k) E W
   unfolding own pick
   crown-own k h =
-      ap (λ c. over (pick c E U) (B k .list)) (b .leaf-o k (lt-ne k n h)) ∙ ap (λ m. over (pick (A k .leaf) E U) m) (b .kids-o k (lt-ne k n h)) ∙ go (A k .leaf) refl
+      ap (λ c. over (pick c E U) (B k .list)) (b .leaf-o k (lt-ne k n h)) ∙ ap (λ m. over (pick (A k .leaf) E U) m) (b .kids-o k (lt-ne k n h))
+      ∙ go (A k .leaf) refl
     where
       go : (c : Bool) → A k .leaf ≡ c → over (pick c E U) (A k .list) ≡ over (pick c E W) (A k .list)
       go true e = refl

@@ -1,0 +1,199 @@
+-- Room through a rebuild: merges, dropping, reinsertion and refold go through roomy trees.
+-- All but reinsertion adds no node and no entry, and lengthens no list. Reinsertion is listed whether or not it is due, and so is dropping.
+use Prim.Native.Nat.{ℕ, zero, suc, _+_, _-_, _≤_, _<_}
+use mathlib.Core.Path.{_≡_, refl, ap, subst}
+use mathlib.Core.Logic.{inr}
+use mathlib.Core.Bool.{Bool, true, false, cond, _||_}
+use mathlib.Core.List.{List, [], _∷_, map, reverse}
+use native.Mathlib.Omega.{arith}
+use lib.Dec.{leb, eqb}
+use lib.ListN.{length, getD}
+use Rattle.feature.specs.Summaries.{blank}
+use Rattle.feature.specs.declared.Summary.{Summary}
+use Rattle.head.specs.declared.Settings.{Settings}
+use Rattle.rules.specs.Tree.{Node, Tree, merge, nodeAt, blankNode, child, withNodes, withEntries, withMerged, summed}
+use Rattle.rules.specs.Pairs.{Pair, sorted, siblings, cousins}
+use Rattle.rules.specs.Reinsert.{reinserted}
+use Rattle.rules.specs.Refold.{foldBalanced, refoldOne, preorder, refoldAll, refolded}
+use Rattle.rules.specs.Rebuild.{target, Merging, mergeOne, bothAlive, mergeAll, dropped, withMerges, rebalanced}
+use Rattle.rules.specs.Rebuild.{compacted, mergedBy, mergedWith, counted, rebuilt}
+use Rattle.laws.specs.Counting.Flags.{keep-few}
+use Rattle.laws.specs.Counting.Lists.{change-keeps, length-change}
+use Rattle.laws.specs.Invariant.Sound.{Caps}
+use Rattle.laws.specs.Inserting.Grown.{Whole}
+use Rattle.laws.specs.Rebuilding.Drop.{dropped-nodes, dropped-leaf, dropped-lists}
+use Rattle.laws.specs.Rebuilding.Merge.{Merged, Every}
+use Rattle.laws.specs.Rebuilding.Pairs.{NearPair, siblings-all, every-map}
+use Rattle.laws.specs.Rebuilding.Cousins.{FarPair, cousins-far}
+use Rattle.laws.specs.Rebuilding.Rebuilt.{mergeStart, near-far, merges-merged, frame-w, rows-w, counted-w, length-w, pos-w}
+use Rattle.laws.specs.Room.Nodes.{Roomy, Within, within-then, within-roomy}
+use Rattle.laws.specs.Room.Moments.{holding-roomy, Reinserting, reinserting-end, reinserting-roomy}
+
+-- ---- what adds nothing
+
+pub entries-within : (t : Tree) (es : List Summary) → length es ≤ length (t .entries) → Within t (withEntries es t)
+unfolding withEntries nodeAt
+entries-within t es h = record { nodes = refl; entries = h; leaf = (λ i. refl); lists = (λ i. omega arith) }
+
+pub dropped-within : (bs : List Bool) (t : Tree) → Within t (dropped bs t)
+dropped-within bs t = record {
+  nodes = dropped-nodes bs t;
+  entries = (unfold dropped withEntries withNodes in keep-few bs (t .entries));
+  leaf = dropped-leaf bs t;
+  lists = dropped-lists bs t;
+}
+
+pub refold-within : (s : Settings) (i : ℕ) (t : Tree) → Within t (refoldOne s i t)
+unfolding refoldOne withNodes nodeAt summed
+refold-within s i t = record {
+  nodes = length-change anew i (t .nodes);
+  entries = omega arith;
+  leaf = (λ k. change-keeps (λ n. n .leaf) anew i k blankNode (t .nodes) (λ n. refl));
+  lists = (λ k. let q = ap (λ l. length l) (change-keeps (λ n. n .list) anew i k blankNode (t .nodes) (λ n. refl)) in omega arith);
+}
+  where
+    anew : Node → Node
+    anew n = summed (λ _. foldBalanced s (length (n .list)) (map (child t (n .leaf)) (n .list))) n
+
+pub counted-within : (t : Tree) → Within t (counted t)
+unfolding counted nodeAt
+counted-within t = record { nodes = refl; entries = omega arith; leaf = (λ i. refl); lists = (λ i. omega arith) }
+
+-- ---- a refold: node after node
+
+pub data Refolds (s : Settings) : List ℕ → Tree → Tree → Type 0 where
+  start : {ns : List ℕ} {t : Tree} → Refolds s ns t t
+  next : {n : ℕ} {ns : List ℕ} {t u : Tree} → Refolds s ns (refoldOne s n t) u → Refolds s (n ∷ ns) t u
+
+abbrev pub Refolding : Settings → Tree → Tree → Type 0
+Refolding s t u = Refolds s (reverse (preorder t (length (t .nodes)) (t .root ∷ []))) t u
+
+refolds-end : (s : Settings) (ns : List ℕ) (t : Tree) → Refolds s ns t (refoldAll s ns t)
+unfolding refoldAll
+refolds-end s [] t = start
+refolds-end s (n ∷ ns) t = next (refolds-end s ns (refoldOne s n t))
+
+-- it ends in the rule's tree
+pub refolding-end : (s : Settings) (t : Tree) → Refolding s t (refolded s t)
+unfolding refolded
+refolding-end s t = refolds-end s (reverse (preorder t (length (t .nodes)) (t .root ∷ []))) t
+
+pub refolds-roomy : {s : Settings} {ns : List ℕ} {t u : Tree} → Roomy s t → Refolds s ns t u → Roomy s u
+refolds-roomy r start = r
+refolds-roomy {s} {t = t} r (next {n} w) = refolds-roomy (within-roomy (refold-within s n t) r) w
+
+-- ---- a rebuild
+
+-- the pairs ps in order, k merges at most
+pub data Merges (s : Settings) (t : Tree) : ℕ → List Pair → Merging → Tree → Type 0 where
+  start : {k : ℕ} {ps : List Pair} {m : Merging} → Merges s t k ps m (withEntries (m .entries) t)
+  skip : {k : ℕ} {p : Pair} {ps : List Pair} {m : Merging} {u : Tree} → bothAlive p (m .alive) ≡ false → Merges s t k ps m u → Merges s t k (p ∷ ps) m u
+  next : {k : ℕ} {p : Pair} {ps : List Pair} {m : Merging} {u : Tree} → bothAlive p (m .alive) ≡ true → Merges s t k ps (mergeOne s p m) u
+      → Merges s t (suc k) (p ∷ ps) m u
+
+-- they end in the rule's entries
+pub merges-end : (s : Settings) (t : Tree) (k : ℕ) (ps : List Pair) (m : Merging) → Merges s t k ps m (withEntries (mergeAll s k ps m .entries) t)
+unfolding mergeAll
+merges-end s t zero ps m = start
+merges-end s t (suc k) [] m = start
+merges-end s t (suc k) (p ∷ ps) m = go (bothAlive p (m .alive)) refl (merges-end s t k ps (mergeOne s p m)) (merges-end s t (suc k) ps m)
+  where
+    go : (b : Bool) → bothAlive p (m .alive) ≡ b → Merges s t k ps (mergeOne s p m) (withEntries (mergeAll s k ps (mergeOne s p m) .entries) t)
+        → Merges s t (suc k) ps m (withEntries (mergeAll s (suc k) ps m .entries) t)
+        → Merges s t (suc k) (p ∷ ps) m
+        (withEntries ((elim b as (λ _. Merging) [ true ↦ mergeAll s k ps (mergeOne s p m) | false ↦ mergeAll s (suc k) ps m ]) .entries) t)
+    go true e x y = next e x
+    go false e x y = skip e y
+
+merges-roomy : {s : Settings} {t : Tree} {k : ℕ} {ps : List Pair} {m : Merging} {u : Tree} → Roomy s t → length (m .entries) ≤ length (t .entries)
+    → Merges s t k ps m u → Roomy s u
+merges-roomy {t = t} {m = m} r h start = within-roomy (entries-within t (m .entries) h) r
+merges-roomy r h (skip e w) = merges-roomy r h w
+merges-roomy {s} {t} {m = m} r h (next {p = p} e w) =
+    let q : length ((mergeOne s p m) .entries) ≡ length (m .entries) =
+    unfold mergeOne in length-change (λ e. merge s e (getD (m .entries) (p .two) blank)) (p .one) (m .entries) in
+    merges-roomy r (omega arith) w
+
+-- the pairs that it goes by: cousins only if no leaf has two entries
+unfoldable pub pairsOf : Settings → Tree → List Pair → List Pair
+pairsOf s t [] = cousins s t (t .nodes)
+pairsOf s t (p ∷ ps) = p ∷ ps
+
+abbrev pub mergesIn : Settings → Tree → Merging
+mergesIn s t = mergeAll s (length (t .entries) - target (s .«max_leaves»)) (sorted (pairsOf s t (siblings s t (t .nodes)))) (mergeStart t)
+
+-- the tree without the merged-away entries
+abbrev pub thinned : Settings → Tree → Tree
+thinned s t = dropped (mergesIn s t .alive) (withMerges t (mergesIn s t))
+
+-- the trees before the refold
+pub data Compacting (s : Settings) (t : Tree) : Tree → Type 0 where
+  start : Compacting s t t
+  merging : {u : Tree} → Merges s t (length (t .entries) - target (s .«max_leaves»)) (sorted (pairsOf s t (siblings s t (t .nodes)))) (mergeStart t) u
+      → Compacting s t u
+  drops : Compacting s t (thinned s t)
+  reinserting : {u : Tree} → Reinserting s (withMerged 0 (thinned s t)) u → Compacting s t u
+
+pub data Rebuilding (s : Settings) (t : Tree) : Tree → Type 0 where
+  compacting : {u : Tree} → Compacting s t u → Rebuilding s t u
+  refolding : {u : Tree} → Refolding s (mergedWith s (siblings s t (t .nodes)) t) u → Rebuilding s t u
+  counts : Rebuilding s t (rebuilt s t)
+
+-- the tree that is refolded is one of the first
+pub compacting-end : (s : Settings) (t : Tree) → Compacting s t (mergedWith s (siblings s t (t .nodes)) t)
+unfolding mergedWith mergedBy
+compacting-end s t = go (siblings s t (t .nodes)) refl
+  where
+    balance : (m : Merging) → mergesIn s t ≡ m → (across : Bool) → Compacting s t (compacted s across t m)
+    balance m e across =
+        subst (λ m. Compacting s t (compacted s across t m)) e
+        (unfold compacted rebalanced in pick (eqb (mergesIn s t .count) 0) (across || leb (s .«max_leaves») (thinned s t .merged)))
+      where
+        pick : (a b : Bool) → Compacting s t (cond a t (cond b (reinserted s (withMerged 0 (thinned s t))) (thinned s t)))
+        pick true b = start
+        pick false true = reinserting (reinserting-end s (withMerged 0 (thinned s t)))
+        pick false false = drops
+
+    by : (ps : List Pair) → pairsOf s t (siblings s t (t .nodes)) ≡ ps → (across : Bool) → Compacting s t (mergedBy s across ps t)
+    by ps e across = unfold mergedBy in balance _ (ap (λ ps. mergeAll s (length (t .entries) - target (s .«max_leaves»)) (sorted ps) (mergeStart t)) e) across
+
+    go : (ps : List Pair) → siblings s t (t .nodes) ≡ ps → Compacting s t (mergedWith s ps t)
+    go [] e = by (cousins s t (t .nodes)) (unfold pairsOf in ap (pairsOf s t) e) true
+    go (p ∷ ps) e = by (p ∷ ps) (unfold pairsOf in ap (pairsOf s t) e) false
+
+module _ {s : Settings} {t : Tree} {total : ℕ} (c : Caps s) (w : Whole s t total) (pos : 0 < length (t .entries))
+    (few : length (t .entries) ≤ s .«max_leaves» + 1) where
+  far : (ps : List Pair) → Every (NearPair s t) ps → Every (FarPair (length (t .entries))) (pairsOf s t ps)
+  unfolding pairsOf
+  far [] a = cousins-far t (w .1 .links) (t .nodes)
+  far (p ∷ ps) a = every-map (NearPair s t) (FarPair (length (t .entries))) (p ∷ ps) (near-far (w .1) (w .2)) a
+
+  merged-all : Merged s (length (t .entries)) total (mergesIn s t)
+  merged-all = merges-merged (w .1) (w .2) (pairsOf s t (siblings s t (t .nodes))) (far (siblings s t (t .nodes)) (siblings-all s t))
+
+  before : Roomy s t
+  before = holding-roomy s t total (inr w) few
+
+  merged-within : Within t (withMerges t (mergesIn s t))
+  unfolding withMerges nodeAt
+  merged-within = record { nodes = refl; entries = (let q = merged-all .len-e in omega arith); leaf = (λ i. refl); lists = (λ i. omega arith) }
+
+  compacting-roomy : {u : Tree} → Compacting s t u → Roomy s u
+  compacting-roomy start = before
+  compacting-roomy (merging m) = merges-roomy before (omega arith) m
+  compacting-roomy drops = within-roomy (within-then merged-within (dropped-within (mergesIn s t .alive) (withMerges t (mergesIn s t)))) before
+  compacting-roomy (reinserting r) =
+      let d = merged-all in
+      let n = length-w (w .1) (w .2) d pos in
+      let q = d .counted in
+      reinserting-roomy (withMerged 0 (thinned s t)) total c (frame-w (w .1) (w .2) d pos) (rows-w (w .1) (w .2) d pos) (counted-w (w .1) (w .2) d pos)
+      (w .1 .exact .small) (pos-w (w .1) (w .2) d pos) (omega arith) r
+
+  -- every tree that a rebuild goes through
+  pub rebuilding-roomy : {u : Tree} → Rebuilding s t u → Roomy s u
+  unfolding rebuilt
+  rebuilding-roomy (compacting r) = compacting-roomy r
+  rebuilding-roomy (refolding r) = refolds-roomy (compacting-roomy (compacting-end s t)) r
+  rebuilding-roomy counts =
+      let v = mergedWith s (siblings s t (t .nodes)) t in
+      within-roomy (counted-within (refolded s v)) (refolds-roomy (compacting-roomy (compacting-end s t)) (refolding-end s v))

@@ -1,0 +1,303 @@
+-- One public call on buffers that hold a tree at rest: accepted, they hold the rule's tree, at rest again; refused, they are as before.
+use borrow.Author.Tests.{leb-true, eqb-true}
+use lib.Dec.{leb, eqb}
+use mathlib.Core.Bool.{Bool, true, false, _||_}
+use Prim.Native.Nat.{ℕ, zero, suc, _+_, _-_, _/_, _≤_, _<_}
+use mathlib.Core.Path.{_≡_, refl, sym, subst, ap, _∙_}
+use mathlib.Core.List.{List, [], _∷_, _++_}
+use native.Mathlib.Omega.{arith}
+use lib.ListN.{length, drop}
+use lib.Ieee.{Float}
+use Rattle.binary64.specs.Whole.{most}
+use Rattle.feature.specs.Summaries.{blank}
+use Rattle.feature.specs.Shape.{Shaped, blank-shaped}
+use Rattle.head.specs.declared.refusal.Refusal.the-variants as Refusals
+use Rattle.head.specs.declared.Settings.{Settings}
+use Rattle.head.specs.declared.Head.{Head}
+use Rattle.head.specs.declared.refusal.Refusal.{Refusal}
+use Rattle.head.specs.declared.refusal.Answer.{Answer}
+use Rattle.head.specs.declared.refusal.Answer.the-variants.{Accepted, Refused}
+use Rattle.head.specs.Heads.{newCounters, settingsOf, withCounters}
+use Rattle.head.specs.Sizes.{linksNeeded, floatsNeeded, entryCap, blockWidth, nodes-small}
+use Rattle.head.specs.Limits.{allowed-sized, Sized, allowed}
+use Rattle.rules.specs.Calls.{Made, createRefusals, Lent, Left, lentTree, fronted, changed, settle}
+use Rattle.rules.specs.Calls.{created, rowInserted, batchInserted, batchRefitted, insertFullRefusal, refitFullRefusal, rowRefusals, batchRefusals}
+use Rattle.rules.specs.Calls.{batchShapeRefusal, madeBy, settingsRefusal, changeRefusals, roomRefusal, rowShapeRefusal}
+use Rattle.rules.specs.Tree.{fresh, Tree, nodeAt, entryAt, blankNode, cap}
+use Rattle.rules.specs.Slices.{countersOf, noParent, floatsOf, linksOf}
+use Rattle.rules.specs.CallLaws.{none-both, unless-none}
+use Rattle.rules.specs.Lists.{rowsOf}
+use Rattle.rules.specs.Stored.{Fits, stored}
+use Rattle.rules.specs.Check.{totalOf}
+use Rattle.rules.specs.Insert.{grown}
+use Rattle.rules.specs.Rebuild.{insertedAll, inserted}
+use Rattle.rules.specs.Refit.{refitted}
+use Rattle.laws.specs.Runs.Runs as Runs
+use Rattle.laws.specs.Summaries.{fresh-shaped, ShapedTree, batch-shaped, refit-shaped}
+use Rattle.laws.specs.Counting.All.{all-at}
+use Rattle.laws.specs.ForCode.{sure-of}
+use Rattle.laws.specs.Check.Both.{AtRest}
+use Rattle.laws.specs.Ownership.Owner.{ownersIn, ownersAll, ownersRefit}
+use Rattle.laws.specs.Locality.Row.{Local, no-rebuild, row-local}
+use Rattle.laws.specs.Room.Kept.{holding-room}
+use Rattle.laws.specs.Runs.Runs.{rowsRefit, Run, rest-total, run-owning, insert, refit}
+
+-- ---- a tree at rest fits its slots
+
+cap-in : (s : Settings) (b : Bool) → cap s b ≤ blockWidth s - 2
+unfolding cap blockWidth
+cap-in s true = omega arith
+cap-in s false = omega arith
+
+pub resting-fits : {s : Settings} → Sized s → (t : Tree) (rows : ℕ) → AtRest s t rows → ShapedTree s t → Fits s t
+unfolding entryCap
+resting-fits {s} z t rows r h =
+    let u = sure-of s t rows (r .holds) in
+    let few = holding-room s t rows (r .holds) (let q = r .few in omega arith) in
+    record {
+      nodes-few = few;
+      entries-few = (let q = r .few in omega arith);
+      lists-few = (λ i l. let a = u .fits i l in let b = cap-in s (nodeAt t i .leaf) in omega arith);
+      parents = (λ i l e. let a = u .parent-in i noParent l e in let b = nodes-small s z in omega arith);
+      nodes-shaped = (λ i l. unfold nodeAt blankNode in all-at (λ n. Shaped (s .feature) (s .dim) (n .summary)) (t .nodes) i blankNode (h .nodes)
+          (blank-shaped (s .feature) (s .dim)));
+      entries-shaped = (λ i l. unfold entryAt in all-at (Shaped (s .feature) (s .dim)) (t .entries) i blank (h .entries) (blank-shaped (s .feature) (s .dim)));
+    }
+
+-- ---- rows and account after a call
+
+-- the rows of a batch
+unfoldable pub rowsIn : Head → List Float → List (List Float)
+rowsIn h xs = rowsOf (length xs / settingsOf h .dim) (settingsOf h .dim) xs
+
+module _ {A : Type 0} where
+  -- new if the call is accepted; a refused one leaves the old
+  unfoldable pub after : Answer → A → A → A
+  after Accepted new old = new
+  after (Refused r) new old = old
+
+-- ---- what an accepted answer says
+
+-- it passed every test, and is done
+accepted-done : (rs : List Refusal) (h : Head) (l : Lent) (done : Left) → settle rs h l done .answer ≡ Accepted → (rs ≡ []) × (settle rs h l done ≡ done)
+unfolding settle
+accepted-done [] h l done e = (refl, refl)
+accepted-done (r ∷ rs) h l done e = let z : _≡_ {A = ℕ} 0 1 = cc in absurd (omega arith)
+
+-- the tree that a changing call leaves is the one that its rule gives
+changed-tree : (h : Head) (l : Lent) (more : ℕ) (t : Tree) → Sized (settingsOf h) → Fits (settingsOf h) t
+    → lentTree (changed h l more t .head) (changed h l more t .lent .floats) (changed h l more t .lent .links) ≡ t
+unfolding changed lentTree fronted settingsOf withCounters
+changed-tree h l more t z f =
+    stored (settingsOf h) z t f (drop (length (floatsOf (settingsOf h) t)) (l .floats)) (drop (length (linksOf (settingsOf h) t)) (l .links))
+
+changed-settings : (h : Head) (l : Lent) (more : ℕ) (t : Tree) → settingsOf (changed h l more t .head) ≡ settingsOf h
+unfolding changed settingsOf withCounters
+changed-settings h l more t = refl
+
+-- ---- what holds throughout: the lent tree is that of a run over the rules
+
+pub record Public (h : Head) (fs : List Float) (ls : List ℕ) (ys : List (List Float)) (a : List ℕ) : Type 0 where
+  pub threshold : Float
+  pub sizes : Sized (settingsOf h)
+  pub run : Run (settingsOf h) threshold (lentTree h fs ls) ys a
+  pub shaped : ShapedTree (settingsOf h) (lentTree h fs ls)
+
+-- one call from there: the rule's tree u, left in the buffers
+next : (h : Head) (l : Lent) (more : ℕ) (u : Tree) (ys : List (List Float)) (a : List ℕ) (threshold : Float) → Sized (settingsOf h)
+    → Run (settingsOf h) threshold u ys a → ShapedTree (settingsOf h) u
+    → Public (changed h l more u .head) (changed h l more u .lent .floats) (changed h l more u .lent .links) ys a
+next h l more u ys a threshold z r k =
+    let o = run-owning z r in
+    let e = changed-tree h l more u z (resting-fits z u (length ys) (o .rests) k) in
+    let q = changed-settings h l more u in
+    record {
+      threshold = threshold;
+      sizes = subst Sized (sym q) z;
+      run = subst (λ s. Run s threshold (lentTree (changed h l more u .head) (changed h l more u .lent .floats) (changed h l more u .lent .links)) ys a)
+          (sym q) (subst (λ t. Run (settingsOf h) threshold t ys a) (sym e) r);
+      shaped = subst (λ s. ShapedTree s (lentTree (changed h l more u .head) (changed h l more u .lent .floats) (changed h l more u .lent .links))) (sym q)
+          (subst (ShapedTree (settingsOf h)) (sym e) k);
+    }
+
+-- what tests passed say
+full-none : (t : Tree) (n : ℕ) → insertFullRefusal t n ≡ [] → totalOf (t .entries) + n ≤ most
+unfolding insertFullRefusal
+full-none t n e = leb-true (totalOf (t .entries) + n) most (unless-none (leb (totalOf (t .entries) + n) most) Refusals.Full e)
+
+refit-full-none : (t : Tree) (n : ℕ) → refitFullRefusal t n ≡ [] → 0 < length (t .entries) → n ≤ most
+unfolding refitFullRefusal
+refit-full-none t n e h = go (eqb (length (t .entries)) 0) refl (unless-none (eqb (length (t .entries)) 0 || leb n most) Refusals.Full e)
+  where
+    go : (b : Bool) → eqb (length (t .entries)) 0 ≡ b → (b || leb n most) ≡ true → n ≤ most
+    go true q f = let z = eqb-true (length (t .entries)) 0 q in absurd (omega arith)
+    go false q f = leb-true n most f
+
+rows-count : {A : Type 0} (k n : ℕ) (l : List A) → length (rowsOf k n l) ≡ k
+unfolding rowsOf
+rows-count zero n l = refl
+rows-count (suc k) n l = ap suc (rows-count k n (drop n l))
+
+abbrev PublicAfter : Left → List (List Float) → List ℕ → Type 0
+PublicAfter o ys a = Public (o .head) (o .lent .floats) (o .lent .links) ys a
+
+-- accepted, the call leaves what it says; refused, all is as before
+answered : (rs : List Refusal) (h : Head) (l : Lent) (more : ℕ) (u : Tree) {ys zs : List (List Float)} {a b : List ℕ} → Public h (l .floats) (l .links) ys a
+    → (settle rs h l (changed h l more u) .answer ≡ Accepted → PublicAfter (settle rs h l (changed h l more u)) zs b)
+    → (o : Left) → o ≡ settle rs h l (changed h l more u) → PublicAfter o (after (o .answer) zs ys) (after (o .answer) b a)
+answered rs h l more u {ys} {zs} {a} {b} p q o e = subst (λ o. PublicAfter o (after (o .answer) zs ys) (after (o .answer) b a)) (sym e) (go rs q)
+  where
+    go : (rs : List Refusal) → (settle rs h l (changed h l more u) .answer ≡ Accepted → PublicAfter (settle rs h l (changed h l more u)) zs b)
+        → PublicAfter (settle rs h l (changed h l more u)) (after (settle rs h l (changed h l more u) .answer) zs ys)
+        (after (settle rs h l (changed h l more u) .answer) b a)
+    go [] q = unfold settle changed after in q refl
+    go (r ∷ rs) q = unfold settle after in p
+
+module _ (h : Head) (l : Lent) where
+  abbrev s : Settings
+  s = settingsOf h
+
+  abbrev t : Tree
+  t = lentTree h (l .floats) (l .links)
+
+  -- ---- accepted: the rule's tree is left, and the rows fit below 2^53
+
+  pub row-accepted : (x : List Float) → rowInserted h l x .answer ≡ Accepted → (rowInserted h l x ≡ changed h l 0 (inserted s x t))
+      × (totalOf (t .entries) + 1 ≤ most)
+  unfolding rowInserted rowRefusals
+  row-accepted x e =
+      let (none, is) = accepted-done (changeRefusals h l 0 ++ rowRefusals s t x) h l (changed h l 0 (inserted s x t)) e in
+      let wrong = none-both (changeRefusals h l 0) (rowRefusals s t x) none .1 in
+      (is, full-none t 1 (none-both (rowShapeRefusal (s .dim) (length x)) (insertFullRefusal t 1) wrong .1))
+
+  pub batch-accepted : (xs : List Float) → batchInserted h l xs .answer ≡ Accepted
+      → (batchInserted h l xs ≡ changed h l 0 (insertedAll s (rowsIn h xs) t)) × (totalOf (t .entries) + length (rowsIn h xs) ≤ most)
+  unfolding batchInserted batchRefusals rowsIn
+  batch-accepted xs e =
+      let n = length xs / s .dim in
+      let (none, is) = accepted-done (changeRefusals h l 0 ++ batchRefusals s t xs) h l (changed h l 0 (insertedAll s (rowsOf n (s .dim) xs) t)) e in
+      let wrong = none-both (changeRefusals h l 0) (batchRefusals s t xs) none .1 in
+      let small = full-none t n (none-both (batchShapeRefusal (s .dim) (length xs)) (insertFullRefusal t n) wrong .1) in
+      let c = rows-count n (s .dim) xs in
+      (is, omega arith)
+
+  pub refit-accepted : (xs : List Float) → batchRefitted h l xs .answer ≡ Accepted
+      → (batchRefitted h l xs ≡ changed h l (length xs / s .dim) (refitted s (rowsIn h xs) t)) × (0 < length (t .entries) → length (rowsIn h xs) ≤ most)
+  unfolding batchRefitted rowsIn
+  refit-accepted xs e =
+      let n = length xs / s .dim in
+      let wrong = batchShapeRefusal (s .dim) (length xs) ++ refitFullRefusal t n in
+      let (none, is) = accepted-done (changeRefusals h l n ++ wrong) h l (changed h l n (refitted s (rowsOf n (s .dim) xs) t)) e in
+      let full = none-both (batchShapeRefusal (s .dim) (length xs)) (refitFullRefusal t n) (none-both (changeRefusals h l n) wrong none .1) .1 in
+      (is, λ m. let small = refit-full-none t n full m in let c = rows-count n (s .dim) xs in omega arith)
+
+  module _ (ys : List (List Float)) (a : List ℕ) (p : Public h (l .floats) (l .links) ys a) where
+    -- ---- what is left then is public
+
+    row-run : (x : List Float) → totalOf (t .entries) + 1 ≤ most
+        → Run s (p .threshold) (inserted s x t) (ys ++ (x ∷ [])) (ownersIn s x t a) × ShapedTree s (inserted s x t)
+    unfolding insertedAll ownersAll
+    row-run x small = (insert {t = t} (x ∷ []) small (p .run), batch-shaped s (x ∷ []) t (p .shaped))
+
+    after-row : (x : List Float) → rowInserted h l x .answer ≡ Accepted → PublicAfter (rowInserted h l x) (ys ++ (x ∷ [])) (ownersIn s x t a)
+    after-row x e =
+        let (is, small) = row-accepted x e in
+        let (run, k) = row-run x small in
+        subst (λ o. PublicAfter o (ys ++ (x ∷ [])) (ownersIn s x t a)) (sym is)
+        (next h l 0 (inserted s x t) (ys ++ (x ∷ [])) (ownersIn s x t a) (p .threshold) (p .sizes) run k)
+
+    after-batch : (xs : List Float) → batchInserted h l xs .answer ≡ Accepted
+        → PublicAfter (batchInserted h l xs) (ys ++ rowsIn h xs) (ownersAll s (rowsIn h xs) t a)
+    after-batch xs e =
+        let rows = rowsIn h xs in
+        let (is, small) = batch-accepted xs e in
+        let run : Run s (p .threshold) (insertedAll s rows t) (ys ++ rows) (ownersAll s rows t a) = insert {t = t} rows small (p .run) in
+        subst (λ o. PublicAfter o (ys ++ rows) (ownersAll s rows t a)) (sym is)
+        (next h l 0 (insertedAll s rows t) (ys ++ rows) (ownersAll s rows t a) (p .threshold) (p .sizes) run (batch-shaped s rows t (p .shaped)))
+
+    after-refit : (xs : List Float) → batchRefitted h l xs .answer ≡ Accepted
+        → PublicAfter (batchRefitted h l xs) (rowsRefit (rowsIn h xs) t ys) (ownersRefit s (rowsIn h xs) t a)
+    after-refit xs e =
+        let rows = rowsIn h xs in
+        let (is, small) = refit-accepted xs e in
+        let run : Run s (p .threshold) (refitted s rows t) (rowsRefit rows t ys) (ownersRefit s rows t a) = refit {t = t} rows small (p .run) in
+        subst (λ o. PublicAfter o (rowsRefit rows t ys) (ownersRefit s rows t a)) (sym is)
+        (next h l (length xs / s .dim) (refitted s rows t) (rowsRefit rows t ys) (ownersRefit s rows t a) (p .threshold) (p .sizes) run
+        (refit-shaped s rows t (p .shaped)))
+
+    -- ---- with any answer
+
+    pub any-row : (x : List Float) (o : Left) → o ≡ rowInserted h l x
+        → PublicAfter o (after (o .answer) (ys ++ (x ∷ [])) ys) (after (o .answer) (ownersIn s x t a) a)
+    unfolding rowInserted
+    any-row x o e = answered (changeRefusals h l 0 ++ rowRefusals s t x) h l 0 (inserted s x t) p (after-row x) o e
+
+    pub any-batch : (xs : List Float) (o : Left) → o ≡ batchInserted h l xs
+        → PublicAfter o (after (o .answer) (ys ++ rowsIn h xs) ys) (after (o .answer) (ownersAll s (rowsIn h xs) t a) a)
+    unfolding batchInserted rowsIn
+    any-batch xs o e =
+        answered (changeRefusals h l 0 ++ batchRefusals s t xs) h l 0 (insertedAll s (rowsOf (length xs / s .dim) (s .dim) xs) t) p (after-batch xs) o e
+
+    pub any-refit : (xs : List Float) (o : Left) → o ≡ batchRefitted h l xs
+        → PublicAfter o (after (o .answer) (rowsRefit (rowsIn h xs) t ys) ys) (after (o .answer) (ownersRefit s (rowsIn h xs) t a) a)
+    unfolding batchRefitted rowsIn
+    any-refit xs o e =
+        let n = length xs / s .dim in
+        answered (changeRefusals h l n ++ (batchShapeRefusal (s .dim) (length xs) ++ refitFullRefusal t n)) h l n (refitted s (rowsOf n (s .dim) xs) t) p
+        (after-refit xs) o e
+
+    -- ---- locality of an accepted row without a rebuild
+
+    pub row-left : (x : List Float) → rowInserted h l x .answer ≡ Accepted → length ((grown s x t) .entries) ≤ s .«max_leaves»
+        → let o = rowInserted h l x in Local s x t (lentTree (o .head) (o .lent .floats) (o .lent .links))
+    row-left x e few =
+        let (is, small) = row-accepted x e in
+        let (run, k) = row-run x small in
+        let o = run-owning (p .sizes) (p .run) in
+        let q = run-owning (p .sizes) run .rests in
+        let n = rest-total (o .rests) in
+        let left = changed-tree h l 0 (inserted s x t) (p .sizes) (resting-fits (p .sizes) (inserted s x t) (length (ys ++ (x ∷ []))) q k) in
+        subst (λ o. Local s x t (lentTree (o .head) (o .lent .floats) (o .lent .links))) (sym is)
+        (subst (λ u. Local s x t u) (sym (left ∙ no-rebuild s x t few)) (row-local s x t (p .sizes) (o .rests) (omega arith)))
+
+-- creation
+abbrev PublicMade : Made → Type 0
+PublicMade m = Public (m .head) (m .floats) (m .links) [] []
+
+made-none : (rs : List Refusal) (h : Head) (fs : List Float) (ls : List ℕ) → madeBy rs h fs ls .answer ≡ Accepted
+    → (rs ≡ []) × (madeBy rs h fs ls ≡ madeBy [] h fs ls)
+unfolding madeBy
+made-none [] h fs ls e = (refl, refl)
+made-none (r ∷ rs) h fs ls e = let z : _≡_ {A = ℕ} 0 1 = cc in absurd (omega arith)
+
+fresh-made : (h : Head) (fs : List Float) (ls : List ℕ) → Sized (settingsOf h) → PublicMade (madeBy [] h fs ls)
+unfolding madeBy fronted withCounters settingsOf lentTree countersOf newCounters fresh
+fresh-made h fs ls z =
+    let s = settingsOf h in
+    let thr = h .counters .threshold in
+    let run : Run s thr (fresh thr) [] [] = Runs.created in
+    let f = resting-fits z (fresh thr) 0 (run-owning z run .rests) (fresh-shaped s thr) in
+    let back = stored s z (fresh thr) f (drop (length (floatsOf s (fresh thr))) fs) (drop (length (linksOf s (fresh thr))) ls) in
+    record { threshold = thr; sizes = z; run = subst (λ t. Run s thr t [] []) (sym back) run; shaped = subst (ShapedTree s) (sym back) (fresh-shaped s thr) }
+
+pub after-create : (h : Head) (fs : List Float) (ls : List ℕ) → created h fs ls .answer ≡ Accepted → PublicMade (created h fs ls)
+unfolding created createRefusals settingsRefusal
+after-create h fs ls e =
+    let s = settingsOf h in
+    let more = roomRefusal (floatsNeeded s) (length fs) ++ roomRefusal (linksNeeded s) (length ls) in
+    let (rs, is) = made-none (settingsRefusal h ++ more) h fs ls e in
+    let ok = unless-none (allowed h) Refusals.Settings (none-both (settingsRefusal h) more rs .0) in
+    subst PublicMade (sym is) (fresh-made h fs ls (allowed-sized h ok))
+
+made-refused : (rs : List Refusal) (r : Refusal) (h : Head) (fs : List Float) (ls : List ℕ) {ys : List (List Float)} {a : List ℕ}
+    → madeBy rs h fs ls .answer ≡ Refused r → Public h fs ls ys a
+    → Public (madeBy rs h fs ls .head) (madeBy rs h fs ls .floats) (madeBy rs h fs ls .links) ys a
+unfolding madeBy
+made-refused [] r h fs ls e p = let z : _≡_ {A = ℕ} 0 1 = cc in absurd (omega arith)
+made-refused (q ∷ rs) r h fs ls e p = p
+
+pub after-refused : (r : Refusal) (h : Head) (fs : List Float) (ls : List ℕ) {ys : List (List Float)} {a : List ℕ} → created h fs ls .answer ≡ Refused r
+    → Public h fs ls ys a
+    → Public (created h fs ls .head) (created h fs ls .floats) (created h fs ls .links) ys a
+unfolding created
+after-refused r h fs ls e p = made-refused (createRefusals h fs ls) r h fs ls e p

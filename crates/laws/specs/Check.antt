@@ -2,6 +2,7 @@
 pub mod Beneath
 pub mod Levels
 pub mod Passing
+pub mod Ranks
 pub mod Read
 pub mod Accept
 pub mod Taken

@@ -4,3 +4,5 @@ pub mod Sums
 pub mod Flags
 pub mod Lists
 pub mod All
+pub mod Only
+pub mod Totals

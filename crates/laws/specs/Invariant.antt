@@ -6,3 +6,4 @@ pub mod Weigh
 pub mod Sound
 pub mod Beneath
 pub mod Collected
+pub mod Same

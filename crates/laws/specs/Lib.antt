@@ -2,6 +2,7 @@
 pub mod Counting
 pub mod Counters
 pub mod Summaries
+pub mod Shapes
 pub mod Invariant
 pub mod Splitting
 pub mod Inserting

@@ -4,6 +4,7 @@ pub mod Threshold
 pub mod Calls
 pub mod Runs
 pub mod Lent
+pub mod Fitting
 pub mod OneCall
 pub mod Public
 pub mod Once

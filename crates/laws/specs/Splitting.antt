@@ -3,6 +3,7 @@ pub mod Groups
 pub mod Torn
 pub mod Tied
 pub mod Crown
+pub mod Extended
 pub mod Nodes
 pub mod Weighed
 pub mod Split

@@ -9,13 +9,12 @@ use lib.Ieee.{Float}
 use Rattle.binary64.specs.Operators.{f0}
 use Rattle.feature.specs.declared.Summary.{Summary}
 use Rattle.feature.specs.Summaries.{blank}
-use Rattle.feature.specs.Shape.{Shaped, blank-shaped, pushed-shaped, merged-shaped}
 use Rattle.head.specs.declared.Settings.{Settings}
 use Rattle.rules.specs.declared.Nearest.{Nearest}
 use Rattle.rules.specs.declared.Nearest.the-variants.{Entry, Nothing}
 use Rattle.rules.specs.Lists.{changeAt, snoc, keep, flip, every}
 use Rattle.rules.specs.Tree.{Node, Tree, push, merge, distTo, distBetween, nodeAt, entryAt, blankNode, child}
-use Rattle.rules.specs.Tree.{withNodes, withEntries, withRoot, withMerged, summed, listing, adding, under, fresh}
+use Rattle.rules.specs.Tree.{withNodes, withEntries, withRoot, withMerged, summed, listing, adding, under}
 use Rattle.rules.specs.Descent.{searched, leafFor, climbed, alongPath}
 use Rattle.rules.specs.Split.{gathered, stays, adopted, half, parted, split, crowned, fitting, splitNext, splitIf, splitUp, settled}
 use Rattle.rules.specs.Insert.{begun, absorbed, absorbs, absorbedOrBegun, placed, grownAt, grown}
@@ -27,8 +26,6 @@ use Rattle.rules.specs.Rebuild.{compacted, mergedBy, mergedWith, counted, rebui
 use Rattle.rules.specs.Refit.{route, poured, reaccumulated, used, anyHollow, refitRounds, refitted}
 use Rattle.laws.specs.Counting.Count.{either}
 use Rattle.laws.specs.Counting.All.{All, all-map, all-at, all-change, all-back, all-take, all-keep, all-drop, all-append, all-set}
-
--- ---- trees
 
 abbrev OfNode : (Summary → Type 0) → Node → Type 0
 OfNode Q n = Q (n .summary)
@@ -300,23 +297,3 @@ module _ (s : Settings) (Q : Summary → Type 0) (none-q : Q blank) (push-q : (x
   refitted-q (x ∷ xs) t h =
       let v = refitRounds s (x ∷ xs) (length (t .entries)) 0 t in
       either (Throughout Q) (eqb (length (t .entries)) 0) t (refolded s v) h (refolded-q v (rounds-q (x ∷ xs) (length (t .entries)) 0 t h))
-
--- ---- the shape that fits a slot
-
-abbrev pub ShapedTree : Settings → Tree → Type 0
-ShapedTree s t = Throughout (Shaped (s .feature) (s .dim)) t
-
-module _ (s : Settings) where
-  pub fresh-shaped : (h : Float) → ShapedTree s (fresh h)
-  unfolding fresh blankNode
-  fresh-shaped h = record { nodes = (blank-shaped (s .feature) (s .dim), tt); entries = tt }
-
-  pub batch-shaped : (xs : List (List Float)) (t : Tree) → ShapedTree s t → ShapedTree s (insertedAll s xs t)
-  batch-shaped xs t h =
-      insertedAll-q s (Shaped (s .feature) (s .dim)) (blank-shaped (s .feature) (s .dim)) (λ x c. pushed-shaped (s .feature) (s .dim) c x)
-      (λ a b. merged-shaped (s .feature) (s .dim) a b) xs t h
-
-  pub refit-shaped : (xs : List (List Float)) (t : Tree) → ShapedTree s t → ShapedTree s (refitted s xs t)
-  refit-shaped xs t h =
-      refitted-q s (Shaped (s .feature) (s .dim)) (blank-shaped (s .feature) (s .dim)) (λ x c. pushed-shaped (s .feature) (s .dim) c x)
-      (λ a b. merged-shaped (s .feature) (s .dim) a b) xs t h

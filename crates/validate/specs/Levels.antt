@@ -15,7 +15,8 @@ use Rattle.rules.specs.Tree.{Tree, nodeAt}
 use Rattle.rules.specs.Check.{nextLevel, levelsFrom, levels}
 use Rattle.laws.specs.Counting.Count.{same?, is, is-other, below, below-in, below-lt, below-le, lt?}
 use Rattle.laws.specs.Counting.Sums.{over, occurs-over, occurs-cons, occurs-here, over-in}
-use Rattle.laws.specs.Check.Read.{rankIn, rank-top, Chain, uncut, listed-all, kid-rank}
+use Rattle.laws.specs.Check.Read.{Chain, uncut, listed-all, kid-rank}
+use Rattle.laws.specs.Check.Ranks.{rankIn, rank-top}
 use Rattle.validate.specs.Climbing.{stepsUp, depth}
 
 over-some : (w : ℕ → ℕ) (l : List ℕ) → 0 < over w l → (i : ℕ) × (0 < occurs i l) × (0 < w i)

@@ -18,9 +18,10 @@ use Rattle.rules.specs.Check.{sameKind, growing, level, known}
 use Rattle.laws.specs.Counting.Count.{is, is-same, is-other, below, below-in, below-out, below-le, below-lt, below-suc, same?, lt?}
 use Rattle.laws.specs.Counting.Sums.{is-sym, over, occurs-over, occurs-cons, length-over, sumTo, sum-same, sum-ones}
 use Rattle.laws.specs.Invariant.Links.{Links, nil, inner, held, rankCount}
-use Rattle.laws.specs.Invariant.Beneath.{over-sum, sum-plus}
+use Rattle.laws.specs.Counting.Totals.{over-sum, sum-plus}
 use Rattle.laws.specs.Check.Passing.{leaf-lists}
-use Rattle.laws.specs.Check.Read.{rankIn, rank-here, rank-top, Chain, uncut, listed-all, kid-rank, leaf-rank, lenAt, rank-count, len-grows}
+use Rattle.laws.specs.Check.Read.{Chain, uncut, listed-all, kid-rank, leaf-rank, lenAt, rank-count, len-grows}
+use Rattle.laws.specs.Check.Ranks.{rankIn, rank-here, rank-top}
 
 -- ---- tests read back
 

@@ -17,8 +17,9 @@ use Rattle.laws.specs.Counting.Sums.{over, over-same, over-append, occur
 use Rattle.laws.specs.Counting.Sums.{sum-same, sum-some, sum-none, occurs-later, occurs-here}
 use Rattle.laws.specs.Invariant.Height.{height, rank-zero}
 use Rattle.laws.specs.Invariant.Links.{Links, nil, leaf?, rankCount}
-use Rattle.laws.specs.Inserting.Climb.{only, only-at, only-off}
-use Rattle.laws.specs.Invariant.Beneath.{Frame, frame-of, inners-sum, sum-only, alone}
+use Rattle.laws.specs.Counting.Only.{only, only-at, only-off}
+use Rattle.laws.specs.Invariant.Beneath.{Frame, frame-of, inners-sum, alone}
+use Rattle.laws.specs.Counting.Totals.{sum-only}
 use Rattle.laws.specs.Invariant.Collected.{under, under-leaf, under-inner, under-root}
 use Rattle.laws.specs.Counting.Flags.{is-sum}
 use Rattle.laws.specs.Check.Read.{below-of, next-over}

@@ -22,7 +22,8 @@ use Rattle.laws.specs.Splitting.Tied.{Added}
 use Rattle.laws.specs.Counting.Lists.{change-at, change-off, change-keeps, length-change, snoc-at, snoc-off, snoc-length}
 use Rattle.laws.specs.Invariant.Weigh.{own, own-leaf, own-inner}
 use Rattle.laws.specs.Invariant.Sound.{entryWeight, nodeWeight, Settled, Looking}
-use Rattle.laws.specs.Inserting.Climb.{only, only-at, only-off, Pushed}
+use Rattle.laws.specs.Inserting.Climb.{Pushed}
+use Rattle.laws.specs.Counting.Only.{only, only-at, only-off}
 use Rattle.laws.specs.Inserting.Listed.{new-links, held-in}
 
 -- ---- a new entry

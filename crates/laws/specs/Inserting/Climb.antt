@@ -2,70 +2,28 @@
 use Prim.Native.Nat.{ℕ, zero, suc, _+_, _≤_, _<_}
 use mathlib.Core.Path.{_≡_, refl, sym, ap, _∙_, subst}
 use mathlib.Core.Logic.{_⊎_, inl, inr, _≢_}
-use mathlib.Core.Bool.{Bool, true, false, cond}
+use mathlib.Core.Bool.{true, false}
 use mathlib.Core.List.{List}
 use mathlib.Core.Option.{Option, none, some, Option·some-injective, Option·none-ne-some}
 use native.Mathlib.Omega.{arith}
-use lib.Dec.{eqb}
 use lib.ListN.{length}
 use Rattle.binary64.specs.Whole.{most}
 use Rattle.feature.specs.declared.Summary.{Summary}
 use Rattle.head.specs.declared.Settings.{Settings}
 use Rattle.rules.specs.Lists.{changeAt, occurs}
-use Rattle.rules.specs.Tree.{Node, Tree, nodeAt, entryAt, blankNode, withNodes, summed, cap}
+use Rattle.rules.specs.Tree.{Node, Tree, nodeAt, entryAt, blankNode, withNodes, summed}
 use Rattle.rules.specs.Descent.{climbed, alongPath}
 use Rattle.rules.specs.Check.{rowsIn}
 use Rattle.laws.specs.Invariant.Weights.{IsExact, Exactly, exact-count, exact-is}
-use Rattle.laws.specs.Counting.Count.{is, same?, eq-test}
-use Rattle.laws.specs.Counting.Sums.{over, over-same, over-once, sum-same}
-use Rattle.laws.specs.Invariant.Links.{Links, inner, held, leaf?, nil, parent-lists, no-parent}
+use Rattle.laws.specs.Counting.Count.{same?}
+use Rattle.laws.specs.Counting.Sums.{over, over-same, over-once}
+use Rattle.laws.specs.Invariant.Links.{Links, leaf?, nil, parent-lists, no-parent}
 use Rattle.laws.specs.Counting.Lists.{change-at, change-off, change-keeps, length-change}
 use Rattle.laws.specs.Invariant.Weigh.{own, own-leaf, own-inner}
 use Rattle.laws.specs.Invariant.Sound.{entryWeight, nodeWeight, Exact, Settled}
 use Rattle.laws.specs.Invariant.Height.{height}
-
--- ---- d at one place
-
-unfoldable pub only : ℕ → ℕ → ℕ → ℕ
-only d m k = cond (eqb k m) d 0
-
-pub only-at : (d m k : ℕ) → k ≡ m → only d m k ≡ d
-unfolding only
-only-at d m k e = go (eqb k m) refl
-  where
-    go : (b : Bool) → eqb k m ≡ b → cond b d 0 ≡ d
-    go true q = refl
-    go false q = absurd (eq-test k m false q .1 refl e)
-
-pub only-off : (d m k : ℕ) → k ≢ m → only d m k ≡ 0
-unfolding only
-only-off d m k e = go (eqb k m) refl
-  where
-    go : (b : Bool) → eqb k m ≡ b → cond b d 0 ≡ 0
-    go true q = absurd (e (eq-test k m true q .0 refl))
-    go false q = refl
-
--- ---- links look at lists, kinds and parents only
-
-pub links-same : (s : Settings) (A B : ℕ → Node) (n root es : ℕ) (R x y o : ℕ → ℕ) → ((k : ℕ) → B k .list ≡ A k .list) → ((k : ℕ) → B k .leaf ≡ A k .leaf)
-    → ((k : ℕ) → B k .parent ≡ A k .parent)
-    → Links s A n root es R x y o → Links s B n root es R x y o
-unfolding inner held
-links-same s A B n root es R x y o hk hl hp g = record {
-  root-in = g .root-in;
-  root-top = hp root ∙ g .root-top;
-  kid = (λ i c l f q. let r = g .kid i c l (sym (hl i) ∙ f) (subst (λ z. 0 < occurs c z) (hk i) q) in (hp c ∙ r .0, r .1));
-  ground = (λ i l f. g .ground i l (sym (hl i) ∙ f));
-  nodes-once = (λ c. ap (λ z. is c root + o c + z) (sum-same (λ i. inner (A i) c) (λ i. inner (B i) c) n (λ k _. ap (λ b. cond b 0 (occurs c (B k .list)))
-      (hl k) ∙ ap (λ z. cond (A k .leaf) 0 (occurs c z)) (hk k))) ∙ g .nodes-once c);
-  entries-once = (λ c. sum-same (λ i. held (A i) c) (λ i. held (B i) c) n (λ k _. ap (λ b. cond b (occurs c (B k .list)) 0) (hl k)
-      ∙ ap (λ z. cond (A k .leaf) (occurs c z) 0) (hk k)) ∙ g .entries-once c);
-  caps = (λ i l. let a : length (B i .list) ≡ length (A i .list) = ap (λ z. length z) (hk i) in let b : cap s (B i .leaf) ≡ cap s (A i .leaf) = ap
-      (λ z. cap s z) (hl i) in let q = g .caps i l in omega arith);
-  filled = (λ i l. let a : length (B i .list) ≡ length (A i .list) = ap (λ z. length z) (hk i) in let q = g .filled i l in omega arith);
-  top = g .top;
-  grows = g .grows;
-}
+use Rattle.laws.specs.Invariant.Same.{links-same}
+use Rattle.laws.specs.Counting.Only.{only, only-at, only-off}
 
 -- ---- one climb step, and all
 

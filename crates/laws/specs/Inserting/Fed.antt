@@ -19,7 +19,8 @@ use Rattle.laws.specs.Invariant.Links.{Links, leaf?, nil, not-both}
 use Rattle.laws.specs.Counting.Lists.{change-at, change-off, length-change}
 use Rattle.laws.specs.Invariant.Weigh.{own, own-leaf, own-inner}
 use Rattle.laws.specs.Invariant.Sound.{entryWeight, nodeWeight, Settled, Looking}
-use Rattle.laws.specs.Inserting.Climb.{only, only-at, only-off, Adds, Pushed}
+use Rattle.laws.specs.Inserting.Climb.{Adds, Pushed}
+use Rattle.laws.specs.Counting.Only.{only, only-at, only-off}
 use Rattle.laws.specs.Inserting.Begun.{looking-of}
 use Rattle.laws.specs.Inserting.Listed.{held-in, held-one}
 

@@ -20,7 +20,8 @@ use Rattle.rules.specs.Tree.{push, distTo, Node, Tree, nodeAt, entryAt, blankNo
 use Rattle.rules.specs.Split.{split, crowned, fitting, splitNext, splitIf, splitUp, settled}
 use Rattle.rules.specs.Descent.{searched, leafFor, climbed, alongPath}
 use Rattle.rules.specs.Insert.{begun, absorbed, absorbedOrBegun, placed, grownAt, grown, absorbs}
-use Rattle.laws.specs.Splitting.Nodes.{split-length, split-sum-o, extended, extend-added, extend-sum, extend-length, crowned-sum, crowned-parts}
+use Rattle.laws.specs.Splitting.Nodes.{split-length, split-sum-o}
+use Rattle.laws.specs.Splitting.Extended.{extended, extend-added, extend-sum, extend-length, crowned-sum, crowned-parts}
 use Rattle.laws.specs.Counting.Lists.{change-off, change-keeps, length-change, past-end}
 use Rattle.laws.specs.Counting.Count.{same?, lt?, lt-ne}
 use Rattle.laws.specs.Invariant.Links.{leaf?, put, nil}

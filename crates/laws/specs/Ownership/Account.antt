@@ -19,7 +19,7 @@ use Rattle.laws.specs.Counting.Sums.{is-sym, over, over-same, occurs-ove
 use Rattle.laws.specs.Invariant.Weights.{blank-exact}
 use Rattle.laws.specs.Invariant.Sound.{entryWeight, nodeWeight}
 use Rattle.laws.specs.Inserting.Grown.{Whole}
-use Rattle.laws.specs.Invariant.Beneath.{over-sum}
+use Rattle.laws.specs.Counting.Totals.{over-sum}
 use Rattle.laws.specs.Rebuilding.Reinsert.{entries-total}
 use Rattle.laws.specs.Check.Beneath.{beneath-weighs, beneath-once}
 use Rattle.laws.specs.Ownership.Owner.{among, rowsAmong, Account}

@@ -26,8 +26,8 @@ use Rattle.laws.specs.Counting.Count.{is, is-same, is-other, same?, lt?,
 use Rattle.laws.specs.Counting.Sums.{over, over-same, occurs-over, occurs-cons, sumTo, sum-same, sum-none}
 use Rattle.laws.specs.Counting.Lists.{change-at, change-off, snoc-at, snoc-off, past-end}
 use Rattle.laws.specs.Invariant.Sound.{entryWeight}
-use Rattle.laws.specs.Inserting.Climb.{only, only-at, only-off}
-use Rattle.laws.specs.Invariant.Beneath.{over-sum, sum-only}
+use Rattle.laws.specs.Counting.Only.{only, only-at, only-off}
+use Rattle.laws.specs.Counting.Totals.{over-sum, sum-only}
 use Rattle.laws.specs.Counting.Flags.{alive, alive-up, alive-down, flag?, renumber-sum, keep-at, keep-length, up-in}
 use Rattle.laws.specs.Ownership.Owner.{takerOf, mergedTo, placeIn}
 

@@ -21,7 +21,7 @@ use Rattle.laws.specs.Invariant.Links.{Links, nil, leaf?}
 use Rattle.laws.specs.Counting.Lists.{change-at, change-off, change-keeps, length-change}
 use Rattle.laws.specs.Invariant.Weigh.{own, own-leaf, own-inner, Weighs}
 use Rattle.laws.specs.Invariant.Sound.{entryWeight, nodeWeight, Exact, Settled}
-use Rattle.laws.specs.Inserting.Climb.{links-same}
+use Rattle.laws.specs.Invariant.Same.{links-same}
 use Rattle.laws.specs.Rebuilding.Order.{Ordered, every-node, root-ordered}
 use Rattle.laws.specs.Inserting.Grown.{Counted, Whole}
 use Rattle.laws.specs.Invariant.Beneath.{Frame, frame-of, deep-le, leaves-sum, kid-below, entry-below}

@@ -15,7 +15,8 @@ use Rattle.laws.specs.Counting.Count.{is-le}
 use Rattle.laws.specs.Invariant.Links.{Links}
 use Rattle.laws.specs.Invariant.Height.{nodes-few}
 use Rattle.laws.specs.Invariant.Sound.{Looking, Caps, cap-some}
-use Rattle.laws.specs.Splitting.Nodes.{split-length, extended}
+use Rattle.laws.specs.Splitting.Nodes.{split-length}
+use Rattle.laws.specs.Splitting.Extended.{extended}
 use Rattle.laws.specs.Splitting.Split.{torn-of}
 use Rattle.laws.specs.Splitting.Up.{crowned-settled, next-looking, next-in}
 

@@ -2,15 +2,13 @@
 use borrow.Author.Tests.{leb-true, eqb-true}
 use lib.Dec.{leb, eqb}
 use mathlib.Core.Bool.{Bool, true, false, _||_}
-use Prim.Native.Nat.{ℕ, zero, suc, _+_, _-_, _/_, _≤_, _<_}
+use Prim.Native.Nat.{ℕ, zero, suc, _+_, _/_, _≤_, _<_}
 use mathlib.Core.Path.{_≡_, refl, sym, subst, ap, _∙_}
 use mathlib.Core.List.{List, [], _∷_, _++_}
 use native.Mathlib.Omega.{arith}
 use lib.ListN.{length, drop}
 use lib.Ieee.{Float}
 use Rattle.binary64.specs.Whole.{most}
-use Rattle.feature.specs.Summaries.{blank}
-use Rattle.feature.specs.Shape.{Shaped, blank-shaped}
 use Rattle.head.specs.declared.refusal.Refusal.the-variants as Refusals
 use Rattle.head.specs.declared.Settings.{Settings}
 use Rattle.head.specs.declared.Head.{Head}
@@ -18,13 +16,13 @@ use Rattle.head.specs.declared.refusal.Refusal.{Refusal}
 use Rattle.head.specs.declared.refusal.Answer.{Answer}
 use Rattle.head.specs.declared.refusal.Answer.the-variants.{Accepted, Refused}
 use Rattle.head.specs.Heads.{newCounters, settingsOf, withCounters}
-use Rattle.head.specs.Sizes.{linksNeeded, floatsNeeded, entryCap, blockWidth, nodes-small}
+use Rattle.head.specs.Sizes.{linksNeeded, floatsNeeded}
 use Rattle.head.specs.Limits.{allowed-sized, Sized, allowed}
 use Rattle.rules.specs.Calls.{Made, createRefusals, Lent, Left, lentTree, fronted, changed, settle}
 use Rattle.rules.specs.Calls.{created, rowInserted, batchInserted, batchRefitted, insertFullRefusal, refitFullRefusal, rowRefusals, batchRefusals}
 use Rattle.rules.specs.Calls.{batchShapeRefusal, madeBy, settingsRefusal, changeRefusals, roomRefusal, rowShapeRefusal}
-use Rattle.rules.specs.Tree.{fresh, Tree, nodeAt, entryAt, blankNode, cap}
-use Rattle.rules.specs.Slices.{countersOf, noParent, floatsOf, linksOf}
+use Rattle.rules.specs.Tree.{fresh, Tree}
+use Rattle.rules.specs.Slices.{countersOf, floatsOf, linksOf}
 use Rattle.rules.specs.CallLaws.{none-both, unless-none}
 use Rattle.rules.specs.Lists.{rowsOf}
 use Rattle.rules.specs.Stored.{Fits, stored}
@@ -33,36 +31,11 @@ use Rattle.rules.specs.Insert.{grown}
 use Rattle.rules.specs.Rebuild.{insertedAll, inserted}
 use Rattle.rules.specs.Refit.{refitted}
 use Rattle.laws.specs.Runs.Runs as Runs
-use Rattle.laws.specs.Summaries.{fresh-shaped, ShapedTree, batch-shaped, refit-shaped}
-use Rattle.laws.specs.Counting.All.{all-at}
-use Rattle.laws.specs.ForCode.{sure-of}
-use Rattle.laws.specs.Check.Both.{AtRest}
+use Rattle.laws.specs.Shapes.{fresh-shaped, ShapedTree, batch-shaped, refit-shaped}
 use Rattle.laws.specs.Ownership.Owner.{ownersIn, ownersAll, ownersRefit}
 use Rattle.laws.specs.Locality.Row.{Local, no-rebuild, row-local}
-use Rattle.laws.specs.Room.Kept.{holding-room}
 use Rattle.laws.specs.Runs.Runs.{rowsRefit, Run, rest-total, run-owning, insert, refit}
-
--- ---- a tree at rest fits its slots
-
-cap-in : (s : Settings) (b : Bool) → cap s b ≤ blockWidth s - 2
-unfolding cap blockWidth
-cap-in s true = omega arith
-cap-in s false = omega arith
-
-pub resting-fits : {s : Settings} → Sized s → (t : Tree) (rows : ℕ) → AtRest s t rows → ShapedTree s t → Fits s t
-unfolding entryCap
-resting-fits {s} z t rows r h =
-    let u = sure-of s t rows (r .holds) in
-    let few = holding-room s t rows (r .holds) (let q = r .few in omega arith) in
-    record {
-      nodes-few = few;
-      entries-few = (let q = r .few in omega arith);
-      lists-few = (λ i l. let a = u .fits i l in let b = cap-in s (nodeAt t i .leaf) in omega arith);
-      parents = (λ i l e. let a = u .parent-in i noParent l e in let b = nodes-small s z in omega arith);
-      nodes-shaped = (λ i l. unfold nodeAt blankNode in all-at (λ n. Shaped (s .feature) (s .dim) (n .summary)) (t .nodes) i blankNode (h .nodes)
-          (blank-shaped (s .feature) (s .dim)));
-      entries-shaped = (λ i l. unfold entryAt in all-at (Shaped (s .feature) (s .dim)) (t .entries) i blank (h .entries) (blank-shaped (s .feature) (s .dim)));
-    }
+use Rattle.laws.specs.Runs.Fitting.{resting-fits}
 
 -- ---- rows and account after a call
 

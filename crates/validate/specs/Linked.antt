@@ -1,9 +1,9 @@
 -- Condition 4 as code computes it is condition 4 as document 01 has it, where 2 and 3 hold.
-use Prim.Native.Nat.{ℕ, _+_, _<_}
-use mathlib.Core.Path.{_≡_, refl, sym, ap, _∙_, subst}
+use Prim.Native.Nat.{ℕ, _<_}
+use mathlib.Core.Path.{_≡_, refl, sym, _∙_, subst}
 use mathlib.Core.Bool.{Bool, true, false, _&&_, _||_, not}
 use mathlib.Core.Logic.{_⊎_, inl, inr, _≢_}
-use mathlib.Core.List.{List, [], _∷_}
+use mathlib.Core.List.{List}
 use mathlib.Core.Option.{Option, none, some}
 use native.Mathlib.Omega.{arith}
 use lib.Dec.{T, ltb, leb, eqb, eqb→eq, ltb→lt, lt→ltb}
@@ -14,43 +14,16 @@ use Rattle.head.specs.declared.Settings.{Settings}
 use Rattle.rules.specs.Lists.{every, upFrom, occurs, joined}
 use Rattle.rules.specs.Tree.{Tree, blankNode, nodeAt, cap}
 use Rattle.rules.specs.Check.{orphan, rooted, known, listFits, levels, onceEach, names, ownList, leafLists, linked}
-use Rattle.laws.specs.Counting.Count.{same?, is, is-other, below, below-in, below-lt}
-use Rattle.laws.specs.Counting.Sums.{over, occurs-cons, length-over, over-same, sumTo, sum-same, sum-ones}
-use Rattle.laws.specs.Check.Accept.{every-at, up-at, occurs-sum, once-back}
-use Rattle.laws.specs.Check.Passing.{every-up, once-each}
+use Rattle.laws.specs.Counting.Count.{same?, below, below-in, below-lt}
+use Rattle.laws.specs.Counting.Sums.{over, length-over, over-same, sumTo, sum-same, sum-ones}
+use Rattle.laws.specs.Check.Accept.{every-at, up-at, occurs-sum, once-back, in-at, names-is, orphan-none}
+use Rattle.laws.specs.Check.Passing.{every-up, once-each, or-left, or-right}
 use Rattle.validate.specs.Climbing.{hangsFrom, hangs, depth, reaches, climbs}
 use Rattle.validate.specs.Depths.{Hung}
 use Rattle.validate.specs.Reached.{each-once}
 use Rattle.validate.specs.Levels.{hung, reach}
 
 -- ---- tests and facts
-
-every-member : (f : ℕ → Bool) (l : List ℕ) → T (every f l) → (c : ℕ) → 0 < occurs c l → T (f c)
-unfolding every occurs
-every-member f [] h c o = absurd (omega arith)
-every-member f (x ∷ l) h c o = go (same? c x) (every-member f l (and-r (f x) (every f l) h) c)
-  where
-    go : (c ≡ x) ⊎ (c ≢ x) → (0 < occurs c l → T (f c)) → T (f c)
-    go (inl e) ih = subst (λ z. T (f z)) (sym e) (and-l (f x) (every f l) h)
-    go (inr e) ih = ih (let a : occurs c (x ∷ l) ≡ is c x + occurs c l = occurs-cons c x l in let b = is-other c x e in omega arith)
-
-names-is : (i : ℕ) (o : Option ℕ) → T (names i o) → o ≡ some i
-unfolding names
-names-is i none h = absurd h
-names-is i (some p) h = ap some (sym (eqb→eq i p h))
-
-orphan-none : (o : Option ℕ) → T (orphan o) → o ≡ none
-unfolding orphan
-orphan-none none h = refl
-orphan-none (some p) h = absurd h
-
-or-left : (a b : Bool) → T a → T (a || b)
-or-left true b t = tt
-or-left false b t = absurd t
-
-pub or-right : (a b : Bool) → T b → T (a || b)
-or-right true b t = tt
-or-right false b t = t
 
 or-else : (a b : Bool) → T (a || b) → (T a → ⊥) → T b
 or-else true b h never = absurd (never tt)
@@ -87,7 +60,7 @@ module _ (s : Settings) (t : Tree) (h2 : T (rooted t)) (h3 : T (every (listFits 
       let n = nodeAt t i in
       let fits = every-at (listFits s t) blankNode (t .nodes) h3 i h in
       let below-all = and-r (leb (length (n .list)) (cap s (n .leaf))) (every (λ c. ltb c (known t (n .leaf))) (n .list)) fits in
-      let q = every-member (λ c. ltb c (known t (n .leaf))) (n .list) below-all c o in
+      let q = in-at (λ c. ltb c (known t (n .leaf))) (n .list) below-all c o in
       ltb→lt c (length (t .nodes)) (subst (λ b. T (ltb c (known t b))) e q)
 
   owned : (i c : ℕ) → T (ownList t i) → i < length (t .nodes) → nodeAt t i .leaf ≡ false → 0 < occurs c (nodeAt t i .list) → (nodeAt t c .parent ≡ some i) ×
@@ -95,7 +68,7 @@ module _ (s : Settings) (t : Tree) (h2 : T (rooted t)) (h3 : T (every (listFits 
   unfolding ownList
   owned i c w h e o =
       let all = subst (λ b. T (b || every (λ c. names i (nodeAt t c .parent)) (nodeAt t i .list))) e w in
-      (names-is i (nodeAt t c .parent) (every-member (λ c. names i (nodeAt t c .parent)) (nodeAt t i .list) all c o), listed-in i c h e o)
+      (names-is i (nodeAt t c .parent) (in-at (λ c. names i (nodeAt t c .parent)) (nodeAt t i .list) all c o), listed-in i c h e o)
 
   -- ---- from the levels to climbing
 

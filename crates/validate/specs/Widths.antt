@@ -1,21 +1,21 @@
 -- Depths counted: the greatest of them, and how many nodes have each.
 use Prim.Native.Nat.{ℕ, zero, suc, _+_, _≤_, _<_}
 use mathlib.Core.Path.{_≡_, refl, sym, ap, _∙_, subst}
-use mathlib.Core.Bool.{Bool, true, false, cond, true≢false}
+use mathlib.Core.Bool.{Bool, true, false, cond}
 use mathlib.Core.Logic.{_⊎_, inl, inr, _≢_}
 use mathlib.Core.List.{map}
 use native.Mathlib.Omega.{arith}
-use lib.Dec.{T, ltb, ltb→lt, lt→ltb}
-use lib.Ieee.Bits.{is-true}
+use lib.Dec.{T, ltb, ltb→lt}
 use lib.ListN.{length}
 use Rattle.rules.specs.Lists.{upFrom, occurs}
 use Rattle.rules.specs.Tree.{Tree}
-use Rattle.laws.specs.Counting.Count.{same?, is, is-same, is-other, lt?}
-use Rattle.laws.specs.Counting.Sums.{occurs-cons, sumTo, sum-same}
+use Rattle.laws.specs.Counting.Count.{same?, is, is-same, is-other}
+use Rattle.laws.specs.Counting.Sums.{occurs-cons, sumTo, sum-same, sum-zero}
 use Rattle.laws.specs.Invariant.Links.{rankCount}
 use Rattle.laws.specs.Invariant.Height.{sum-first}
 use Rattle.validate.specs.Climbing.{depth}
 use Rattle.validate.specs.Evenly.{depths, greatest, deepest, widthAt}
+use borrow.Author.Tests.{ltb-false}
 
 -- ---- the greatest of a list
 
@@ -29,14 +29,7 @@ greatest-most f (suc n) i c a b = go (ltb (f i) (greatest (map f (upFrom n (suc 
     go true e (inl q) ih = let z = ltb→lt (f i) (greatest (map f (upFrom n (suc i)))) (subst T (sym e) tt) in let w : f c ≡ f i = ap f q in omega arith
     go true e (inr q) ih = ih (omega arith)
     go false e (inl q) ih = let w : f c ≡ f i = ap f q in omega arith
-    go false e (inr q) ih = let z = ih (omega arith) in let w = not-less (f i) (greatest (map f (upFrom n (suc i)))) e in omega arith
-      where
-        not-less : (x y : ℕ) → ltb x y ≡ false → y ≤ x
-        not-less x y e = by (lt? x y)
-          where
-            by : (x < y) ⊎ (y ≤ x) → y ≤ x
-            by (inl q) = absurd (true≢false (sym (is-true (ltb x y) (lt→ltb x y q)) ∙ e))
-            by (inr q) = q
+    go false e (inr q) ih = let z = ih (omega arith) in let w = ltb-false (f i) (greatest (map f (upFrom n (suc i)))) e in omega arith
 
 pub greatest-least : (f : ℕ → ℕ) (n i m : ℕ) → ((c : ℕ) → i ≤ c → c < i + n → f c ≤ m) → greatest (map f (upFrom n i)) ≤ m
 unfolding upFrom greatest
@@ -81,11 +74,7 @@ turned f g n m d r h e = sum-same (λ k. is r (g k)) (λ k. is d (f k)) n (λ c 
 
 pub none-count : (f : ℕ → ℕ) (n d : ℕ) → ((c : ℕ) → c < n → d ≢ f c) → rankCount f n d ≡ 0
 unfolding rankCount
-none-count f n d h = sum-same (λ _. 0) (λ k. is d (f k)) n (λ c q. is-other d (f c) (h c q)) ∙ zeros n
-  where
-    zeros : (n : ℕ) → sumTo (λ _. 0) n ≡ 0
-    zeros zero = unfold sumTo in refl
-    zeros (suc n) = let p : sumTo (λ _. 0) (suc n) ≡ sumTo (λ _. 0) n + 0 = unfold sumTo in refl in let q = zeros n in omega arith
+none-count f n d h = sum-same (λ _. 0) (λ k. is d (f k)) n (λ c q. is-other d (f c) (h c q)) ∙ sum-zero n
 
 pub some-count : (f : ℕ → ℕ) (n d : ℕ) → 0 < rankCount f n d → (c : ℕ) × (c < n) × (f c ≡ d)
 unfolding rankCount

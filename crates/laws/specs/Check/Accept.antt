@@ -16,7 +16,7 @@ use Rattle.rules.specs.Tree.{Tree, nodeAt, blankNode, cap}
 use Rattle.rules.specs.Check.{onceEach, orphan, names, rooted, listFits, nextLevel, levelsFrom, levels, ownList, leafLists, linked, loneRoot, filled}
 use Rattle.rules.specs.Check.{sameKind, growing, level, known}
 use Rattle.laws.specs.Counting.Count.{is, is-same, is-other, below, below-in, below-out, below-le, below-lt, below-suc, same?, lt?}
-use Rattle.laws.specs.Counting.Sums.{is-sym, over, occurs-over, occurs-cons, length-over, sumTo, sum-same, sum-ones}
+use Rattle.laws.specs.Counting.Sums.{is-sym, over, occurs-over, occurs-cons, length-over, sumTo, sum-same, sum-ones, sum-zero}
 use Rattle.laws.specs.Invariant.Links.{Links, nil, inner, held, rankCount}
 use Rattle.laws.specs.Counting.Totals.{over-sum, sum-plus}
 use Rattle.laws.specs.Check.Passing.{leaf-lists}
@@ -40,7 +40,7 @@ up-at f (suc n) i h c a b = go (same? c i) (λ q. up-at f n (suc i) (and-r (f i)
     go (inl e) ih = subst (λ z. T (f z)) (sym e) (and-l (f i) (every f (upFrom n (suc i))) h)
     go (inr e) ih = ih (omega arith)
 
-in-at : (f : ℕ → Bool) (l : List ℕ) → T (every f l) → (c : ℕ) → 0 < occurs c l → T (f c)
+pub in-at : (f : ℕ → Bool) (l : List ℕ) → T (every f l) → (c : ℕ) → 0 < occurs c l → T (f c)
 unfolding every occurs
 in-at f [] h c o = absurd (not-suc-le-zero o)
 in-at f (x ∷ l) h c o = go (same? c x) (λ p. in-at f l (and-r (f x) (every f l) h) c p)
@@ -69,11 +69,7 @@ over-strict v w c (x ∷ l) h s o = go (same? c x) (λ p. over-strict v w c l h 
 
 pub occurs-sum : (n : ℕ) (l : List ℕ) → sumTo (λ c. occurs c l) n ≡ over (λ x. below x n) l
 unfolding over occurs
-occurs-sum n [] = zeros n
-  where
-    zeros : (n : ℕ) → sumTo (λ _. 0) n ≡ 0
-    zeros zero = unfold sumTo in refl
-    zeros (suc n) = let p : sumTo (λ _. 0) (suc n) ≡ sumTo (λ _. 0) n + 0 = unfold sumTo in refl in let q = zeros n in omega arith
+occurs-sum n [] = sum-zero n
 occurs-sum n (x ∷ l) =
     sum-same (λ c. is c x + occurs c l) (λ c. occurs c (x ∷ l)) n (λ c q. occurs-cons c x l) ∙ sum-plus (λ c. is c x) (λ c. occurs c l) n
     ∙ ap (λ z. z + sumTo (λ c. occurs c l) n) (ones n) ∙ ap (λ z. below x n + z) (occurs-sum n l)
@@ -115,6 +111,16 @@ once-back n l h c = go (lt? c n)
 or-else : (a b : Bool) → T (a || b) → (T b → ⊥) → T a
 or-else true b h n = tt
 or-else false b h n = absurd (n h)
+
+pub names-is : (i : ℕ) (o : Option ℕ) → T (names i o) → o ≡ some i
+unfolding names
+names-is i none h = absurd h
+names-is i (some p) h = ap some (sym (eqb→eq i p h))
+
+pub orphan-none : (o : Option ℕ) → T (orphan o) → o ≡ none
+unfolding orphan
+orphan-none none h = refl
+orphan-none (some p) h = absurd h
 
 module _ (s : Settings) (t : Tree) (h2 : T (rooted t)) (h3 : T (every (listFits s t) (t .nodes))) (h4 : T (linked t)) (h5 : T (filled t))
     (not-lone : T (loneRoot t) → ⊥) where
@@ -171,16 +177,6 @@ module _ (s : Settings) (t : Tree) (h2 : T (rooted t)) (h3 : T (every (listFits 
       len =
           unfold levels onceEach in eqb→eq (length (joined (levels t))) (length (t .nodes)) (and-l (eqb (length (joined (levels t))) (length (t .nodes)))
           (every (λ i. eqb (occurs i (joined (levels t))) 1) (upFrom (length (t .nodes)) 0)) once-nodes)
-
-  names-is : (i : ℕ) (o : Option ℕ) → T (names i o) → o ≡ some i
-  unfolding names
-  names-is i none h = absurd h
-  names-is i (some p) h = ap {B = Option ℕ} (λ z. some z) (sym (eqb→eq i p h))
-
-  root-is : (o : Option ℕ) → T (orphan o) → o ≡ none
-  unfolding orphan
-  root-is none h = refl
-  root-is (some p) h = absurd h
 
   kid′ : (i c : ℕ) → i < length (t .nodes) → nodeAt t i .leaf ≡ false → 0 < occurs c (nodeAt t i .list) → (nodeAt t c .parent ≡ some i) ×
       (ranks i ≡ suc (ranks c))
@@ -255,7 +251,7 @@ module _ (s : Settings) (t : Tree) (h2 : T (rooted t)) (h3 : T (every (listFits 
 
   root-top′ : nodeAt t (t .root) .parent ≡ none
   unfolding rooted
-  root-top′ = root-is (nodeAt t (t .root) .parent) (and-r (ltb (t .root) (length (t .nodes))) (orphan (nodeAt t (t .root) .parent)) h2)
+  root-top′ = orphan-none (nodeAt t (t .root) .parent) (and-r (ltb (t .root) (length (t .nodes))) (orphan (nodeAt t (t .root) .parent)) h2)
 
   -- with any ranks that fall by one from a node to what it lists
   pub links-by : (R : ℕ → ℕ) → ((i c : ℕ) → i < length (t .nodes) → nodeAt t i .leaf ≡ false → 0 < occurs c (nodeAt t i .list) → R i ≡ suc (R c))

@@ -3,8 +3,7 @@ use Prim.Native.Nat.{ℕ, zero, suc, _+_, _≤_, _<_}
 use mathlib.Core.Path.{_≡_, refl, sym, ap, _∙_, subst}
 use mathlib.Core.Logic.{_⊎_, inl, inr}
 use mathlib.Core.Bool.{true, false, cond}
-use mathlib.Core.List.{List, [], _∷_, map}
-use native.Mathlib.Nat.{not-suc-le-zero}
+use mathlib.Core.List.{[], _∷_, map}
 use native.Mathlib.Omega.{arith}
 use lib.ListN.{length}
 use Rattle.head.specs.declared.Settings.{Settings}
@@ -13,7 +12,7 @@ use Rattle.rules.specs.Reinsert.{collected}
 use Rattle.rules.specs.Lists.{occurs}
 use Rattle.rules.specs.Check.{totalOf}
 use Rattle.laws.specs.Counting.Count.{is, below-le}
-use Rattle.laws.specs.Counting.Sums.{over, over-same, occurs-over, sumTo, sum-ones, occurs-only, occurs-here, over-in}
+use Rattle.laws.specs.Counting.Sums.{over, over-same, occurs-over, sumTo, sum-ones, occurs-only, over-in, first-of}
 use Rattle.laws.specs.Counting.Flags.{is-sum}
 use Rattle.laws.specs.Invariant.Links.{Links, nil, leaf?}
 use Rattle.laws.specs.Invariant.Height.{rank-zero}
@@ -22,10 +21,6 @@ use Rattle.laws.specs.Invariant.Sound.{entryWeight, nodeWeight, Settled}
 use Rattle.laws.specs.Invariant.Beneath.{Frame, frame-of, deep-le, leaves-sum, kid-below, entry-below}
 use Rattle.laws.specs.Invariant.Collected.{under, under-leaf, under-inner, under-root, collect-over}
 use Rattle.laws.specs.Rebuilding.Reinsert.{entries-total}
-
-first-of : (l : List ℕ) → 0 < length l → (c : ℕ) × (0 < occurs c l)
-first-of [] h = absurd (not-suc-le-zero h)
-first-of (c ∷ l) h = (c, occurs-here c l)
 
 module _ {s : Settings} (t : Tree) {R : ℕ → ℕ} (g : Links s (nodeAt t) (length (t .nodes)) (t .root) (length (t .entries)) R nil nil nil) where
   fr : Frame (nodeAt t) (length (t .nodes)) (t .root) (length (t .entries)) R

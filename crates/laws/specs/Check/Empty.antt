@@ -25,6 +25,7 @@ use Rattle.laws.specs.Invariant.Height.{leaves-few, levels-some}
 use Rattle.laws.specs.Inserting.First.{emptyTree, Zero, Bare}
 use Rattle.laws.specs.Check.Accept.{ranks, accepted-links}
 use Rattle.laws.specs.Check.Taken.{Binary64, lowest-none}
+use lib.Ieee.Bits.{is-true}
 
 -- ---- no entries: a lone root
 
@@ -35,10 +36,6 @@ no-entries (x ∷ l) e = absurd (omega arith)
 or-else : (a b : Bool) → a ≡ false → T (a || b) → T b
 or-else true b e h = absurd (true≢false e)
 or-else false b e h = h
-
-T-true : (b : Bool) → T b → b ≡ true
-T-true true h = refl
-T-true false h = absurd h
 
 module _ (s : Settings) (t : Tree) (h2 : T (rooted t)) (h3 : T (every (listFits s t) (t .nodes))) (h4 : T (linked t)) (h5 : T (filled t)) (h6 : T (level t))
     (none-in : length (t .entries) ≡ 0) where
@@ -112,11 +109,11 @@ pub bare-passes : (s : Settings) (z : Summary) (h : Float) (r g : ℕ) → Zero 
 unfolding checked sized rooted orphan every listFits linked onceEach levels levelsFrom nextLevel joined occurs upFrom ownList leafLists filled loneRoot level sameKind growing weighed weighs totalOf collected nodeAt lowest nodeCap unsettled
 bare-passes s z h r g hz one hg =
     go (leb 1 ((s .«max_leaves» + 1) * (s .«max_leaves» + 2) / 2))
-    (T-true (leb 1 ((s .«max_leaves» + 1) * (s .«max_leaves» + 2) / 2)) (le→leb 1 ((s .«max_leaves» + 1) * (s .«max_leaves» + 2) / 2) (omega arith)))
-    (leb 0 (s .«max_leaves»)) (T-true (leb 0 (s .«max_leaves»)) (le→leb 0 (s .«max_leaves») (omega arith)))
-    (leb 0 (cap s true)) (T-true (leb 0 (cap s true)) (le→leb 0 (cap s true) (omega arith)))
+    (is-true (leb 1 ((s .«max_leaves» + 1) * (s .«max_leaves» + 2) / 2)) (le→leb 1 ((s .«max_leaves» + 1) * (s .«max_leaves» + 2) / 2) (omega arith)))
+    (leb 0 (s .«max_leaves»)) (is-true (leb 0 (s .«max_leaves»)) (le→leb 0 (s .«max_leaves») (omega arith)))
+    (leb 0 (cap s true)) (is-true (leb 0 (cap s true)) (le→leb 0 (cap s true) (omega arith)))
     (eq (whole 0) (z .weight)) (zero-eq hz)
-    (ltb g (s .«max_leaves»)) (T-true (ltb g (s .«max_leaves»)) (lt→ltb g (s .«max_leaves») hg))
+    (ltb g (s .«max_leaves»)) (is-true (ltb g (s .«max_leaves»)) (lt→ltb g (s .«max_leaves») hg))
   where
     zero-eq : Zero (z .weight) → eq (whole 0) (z .weight) ≡ true
     zero-eq (inl q) = ap (λ w. eq (whole 0) w) q ∙ (unfold ofInt eq in refl)

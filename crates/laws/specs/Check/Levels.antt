@@ -13,7 +13,7 @@ use Rattle.rules.specs.Tree.{Tree, nodeAt}
 use Rattle.rules.specs.Lists.{occurs, every, joined}
 use Rattle.rules.specs.Check.{nextLevel, levelsFrom, levels, sameKind, growing, level}
 use Rattle.laws.specs.Counting.Count.{is, is-same, is-other, is-eq, same?, below}
-use Rattle.laws.specs.Counting.Sums.{over, over-same, over-append, occurs-over, length-over, sumTo}
+use Rattle.laws.specs.Counting.Sums.{over, over-same, over-append, occurs-over, length-over, sumTo, over-zero}
 use Rattle.laws.specs.Counting.Sums.{sum-same, sum-some, sum-none, occurs-later, occurs-here}
 use Rattle.laws.specs.Invariant.Height.{height, rank-zero}
 use Rattle.laws.specs.Invariant.Links.{Links, nil, leaf?, rankCount}
@@ -59,10 +59,6 @@ module _ {s : Settings} (t : Tree) {R : ℕ → ℕ} (g : Links s (nodeAt t) (le
       high : suc h ≤ R (t .root) → R (t .root) ≢ h
       high b e = omega arith
 
-      zeros : (l : List ℕ) → over (λ _. 0) l ≡ 0
-      zeros [] = unfold over in refl
-      zeros (x ∷ l) = let p : over (λ _. 0) (x ∷ l) ≡ 0 + over (λ _. 0) l = unfold over in refl in let q = zeros l in omega arith
-
       each : (k : ℕ) → k < length (t .nodes) → (R k ≡ suc h) ⊎ (R k ≢ suc h) → (nodeAt t k .leaf ≡ true) ⊎ (nodeAt t k .leaf ≡ false)
           → only (below-of t v k) (suc h) (R k) ≡ below-of t (λ m. only (v m) h (R m)) k
       each k q (inl e) (inl f) = let z = g .ground k q f in absurd (omega arith)
@@ -74,7 +70,7 @@ module _ {s : Settings} (t : Tree) {R : ℕ → ℕ} (g : Links s (nodeAt t) (le
       each k q (inr e) (inr f) =
           only-off (below-of t v k) (suc h) (R k) e
           ∙ sym (over-same (λ m. only (v m) h (R m)) (λ _. 0) (nodeAt t k .list) (λ c o. only-off (v c) h (R c) (λ z. e (g .kid k c q f o .1 ∙ ap suc z)))
-          ∙ zeros (nodeAt t k .list))
+          ∙ over-zero (nodeAt t k .list))
           ∙ ap (λ b. cond b 0 (over (λ m. only (v m) h (R m)) (nodeAt t k .list))) (sym f)
 
   -- members of a level

@@ -7,7 +7,7 @@ use mathlib.Core.List.{List, [], _∷_, map}
 use native.Mathlib.Omega.{arith}
 use lib.Dec.{T, leb, ltb, eqb, le→leb, lt→ltb, eqb-refl}
 use lib.Ieee.{eq}
-use lib.Ieee.Fits.{and-i}
+use lib.Ieee.Fits.{and-i, eq→eqb}
 use lib.ListN.{length, getD}
 use Rattle.binary64.specs.CountLaws.{counts-test}
 use Rattle.binary64.specs.Whole.{whole, most}
@@ -52,22 +52,19 @@ unfolding every upFrom
 every-up f zero i h = tt
 every-up f (suc n) i h = and-i (f i) (every f (upFrom n (suc i))) (h i (omega arith)) (every-up f n (suc i) (λ c q. h c (omega arith)))
 
-eq→eqb : (m n : ℕ) → m ≡ n → T (eqb m n)
-eq→eqb m n e = subst (λ z. T (eqb m z)) e (eqb-refl m)
-
-or-left : (a b : Bool) → T a → T (a || b)
+pub or-left : (a b : Bool) → T a → T (a || b)
 or-left true b t = tt
 or-left false b t = absurd t
 
-or-right : (a b : Bool) → T b → T (a || b)
+pub or-right : (a b : Bool) → T b → T (a || b)
 or-right true b t = tt
 or-right false b t = t
 
 pub once-each : (n : ℕ) (l : List ℕ) → length l ≡ n → ((c : ℕ) → occurs c l ≡ below c n) → T (onceEach n l)
 unfolding onceEach
 once-each n l e h =
-    and-i (eqb (length l) n) (every (λ i. eqb (occurs i l) 1) (upFrom n 0)) (eq→eqb (length l) n e)
-    (every-up (λ i. eqb (occurs i l) 1) n 0 (λ c q. eq→eqb (occurs c l) 1 (h c ∙ below-in c n (omega arith))))
+    and-i (eqb (length l) n) (every (λ i. eqb (occurs i l) 1) (upFrom n 0)) (eq→eqb e)
+    (every-up (λ i. eqb (occurs i l) 1) n 0 (λ c q. eq→eqb (h c ∙ below-in c n (omega arith))))
 
 -- ---- all leaves' lists in one
 
@@ -93,7 +90,7 @@ entries-sum d (e ∷ l) = let a = entries-sum d l in let b = sum-first (λ k. ro
 
 -- ---- the conditions
 
-abbrev Trues : List Bool → Type 0
+abbrev pub Trues : List Bool → Type 0
 Trues [] = Unit
 Trues (b ∷ bs) = T b × Trues bs
 

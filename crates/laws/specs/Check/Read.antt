@@ -14,7 +14,7 @@ use Rattle.rules.specs.Tree.{Tree, nodeAt}
 use Rattle.rules.specs.Lists.{occurs, every, joined}
 use Rattle.rules.specs.Check.{nextLevel, levelsFrom, sameKind, growing}
 use Rattle.laws.specs.Counting.Count.{is, is-same, is-other, same?, lt?}
-use Rattle.laws.specs.Counting.Sums.{over, over-same, over-append, over-in, occurs-over, occurs-append, occurs-cons, length-over}
+use Rattle.laws.specs.Counting.Sums.{over, over-same, over-append, over-in, occurs-over, occurs-append, occurs-cons, length-over, over-zero}
 use Rattle.laws.specs.Check.Ranks.{rankIn, rank-here, rank-later}
 
 -- what node k lists, weighed by v
@@ -157,14 +157,10 @@ module _ (s : Settings) (t : Tree) where
   unfolding sameKind
   leaf-last l k i o f = go (or-cases (every (λ i. nodeAt t i .leaf) l) (every (λ i. not (nodeAt t i .leaf)) l) k)
     where
-      zeros : (l : List ℕ) → over (λ _. 0) l ≡ 0
-      zeros [] = unfold over in refl
-      zeros (x ∷ l) = let p : over (λ _. 0) (x ∷ l) ≡ 0 + over (λ _. 0) l = unfold over in refl in let q = zeros l in omega arith
-
       go : T (every (λ i. nodeAt t i .leaf) l) ⊎ T (every (λ i. not (nodeAt t i .leaf)) l) → length (nextLevel t l) ≡ 0
       go (inl a) =
           length-over (nextLevel t l) ∙ next-over t (λ _. 1) l
-          ∙ over-same (below-of t (λ _. 1)) (λ _. 0) l (λ c q. each c (all-of (λ i. nodeAt t i .leaf) l a c q)) ∙ zeros l
+          ∙ over-same (below-of t (λ _. 1)) (λ _. 0) l (λ c q. each c (all-of (λ i. nodeAt t i .leaf) l a c q)) ∙ over-zero l
         where
           each : (c : ℕ) → T (nodeAt t c .leaf) → below-of t (λ _. 1) c ≡ 0
           each c h = by (nodeAt t c .leaf) h

@@ -29,7 +29,7 @@ use Rattle.laws.specs.Invariant.Beneath.{Frame, frame-of, kid-below}
 use Rattle.laws.specs.Invariant.Weigh.{own, own-leaf, own-inner}
 use Rattle.laws.specs.Invariant.Sound.{entryWeight, nodeWeight, Settled}
 use Rattle.laws.specs.Inserting.Grown.{Counted, Whole}
-use Rattle.laws.specs.Check.Passing.{entries-sum}
+use Rattle.laws.specs.Check.Passing.{entries-sum, Trues}
 use Rattle.laws.specs.Check.Beneath.{rowsBeneath, rows-leaf, rows-inner, rows-le, rows-root, rows-some, beneath-is}
 use Rattle.laws.specs.Check.Accept.{every-at, up-at, ranks, accepted-links}
 
@@ -125,10 +125,6 @@ module _ {s : Settings} {t : Tree} {R : ℕ → ℕ} (g : Links s (nodeAt t) (le
           (λ c o. W-is c (kid-below fr k c l f o)))
 
 -- ---- all eight
-
-abbrev pub Trues : List Bool → Type 0
-Trues [] = Unit
-Trues (b ∷ bs) = T b × Trues bs
 
 pub lowest-none : (i : ℕ) (bs : List Bool) → lowest i bs ≡ Passes → Trues bs
 unfolding lowest

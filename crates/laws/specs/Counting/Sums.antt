@@ -200,3 +200,17 @@ over-in w i (c ∷ m) q = go (same? i c) (λ p. over-in w i m p)
     go : (i ≡ c) ⊎ (i ≢ c) → (0 < occurs i m → w i ≤ over w m) → w i ≤ w c + over w m
     go (inl z) ih = let r : w i ≡ w c = ap w z in omega arith
     go (inr z) ih = let r = occurs-cons i c m in let y = is-other i c z in let x = ih (omega arith) in omega arith
+
+pub over-zero : (l : List ℕ) → over (λ _. 0) l ≡ 0
+unfolding over
+over-zero [] = refl
+over-zero (k ∷ l) = let q = over-zero l in omega arith
+
+pub sum-zero : (n : ℕ) → sumTo (λ _. 0) n ≡ 0
+unfolding sumTo
+sum-zero zero = refl
+sum-zero (suc n) = let q = sum-zero n in omega arith
+
+pub first-of : (l : List ℕ) → 0 < length l → (c : ℕ) × (0 < occurs c l)
+first-of [] h = absurd (omega arith)
+first-of (c ∷ l) h = (c, occurs-here c l)

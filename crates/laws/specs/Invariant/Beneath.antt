@@ -3,7 +3,6 @@ use Prim.Native.Nat.{ℕ, zero, suc, _+_, _*_, _≤_, _<_}
 use mathlib.Core.Path.{_≡_, refl, sym, ap, _∙_}
 use mathlib.Core.Logic.{_⊎_, inl, inr, _≢_}
 use mathlib.Core.Bool.{Bool, true, false, not, cond}
-use mathlib.Core.List.{List, [], _∷_}
 use mathlib.Core.Option.{some}
 use native.Mathlib.Nat.{zero-mul, one-mul}
 use native.Mathlib.Omega.{arith}
@@ -12,7 +11,7 @@ use Rattle.head.specs.declared.Settings.{Settings}
 use Rattle.rules.specs.Tree.{Node}
 use Rattle.rules.specs.Lists.{occurs}
 use Rattle.laws.specs.Counting.Count.{is, is-same, is-other, below, below-in, below-lt, same?, lt?}
-use Rattle.laws.specs.Counting.Sums.{over, over-same, sumTo, sum-same, sum-at, sum-none, sum-some}
+use Rattle.laws.specs.Counting.Sums.{over, over-same, sumTo, sum-same, sum-at, sum-none, sum-some, over-zero}
 use Rattle.laws.specs.Invariant.Height.{sum-swap}
 use Rattle.laws.specs.Invariant.Links.{Links, inner, held, inner-no, inner-yes, held-no, held-yes, leaf?, nil}
 use Rattle.laws.specs.Counting.Only.{only, only-at, only-off}
@@ -160,11 +159,7 @@ module _ {A : ℕ → Node} {n root es : ℕ} {R : ℕ → ℕ} (g : Frame A n r
       none-of : A k .leaf ≡ false → R k ≢ suc h → over (λ m. only (deep A f h m) h (R m)) (A k .list) ≡ 0
       none-of u e =
           over-same (λ m. only (deep A f h m) h (R m)) (λ _. 0) (A k .list) (λ c o. only-off (deep A f h c) h (R c) (λ z. e (g .kid k c l u o .1 ∙ ap suc z)))
-          ∙ zeros (A k .list)
-        where
-          zeros : (l : List ℕ) → over (λ _. 0) l ≡ 0
-          zeros [] = unfold over in refl
-          zeros (x ∷ l) = let p : over (λ _. 0) (x ∷ l) ≡ 0 + over (λ _. 0) l = unfold over in refl in let q = zeros l in omega arith
+          ∙ over-zero (A k .list)
 
       high : higher (f k) (suc h) (R k) + only (f k) (suc h) (R k) ≡ higher (f k) h (R k)
       high = by (same? (R k) (suc h)) (lt? h (R k))

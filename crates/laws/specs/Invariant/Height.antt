@@ -3,15 +3,12 @@ use Prim.Native.Nat.{ℕ, zero, suc, _+_, _-_, _*_, _≤_, _<_}
 use mathlib.Core.Path.{_≡_, refl, sym, ap, _∙_, subst}
 use mathlib.Core.Logic.{_⊎_, inl, inr, _≢_}
 use mathlib.Core.Bool.{true, false}
-use mathlib.Core.List.{List, [], _∷_}
-use native.Mathlib.Nat.{not-suc-le-zero}
 use native.Mathlib.Omega.{arith}
-use lib.ListN.{length}
 use Rattle.head.specs.declared.Settings.{Settings}
 use Rattle.rules.specs.Tree.{Node}
 use Rattle.rules.specs.Lists.{occurs}
-use Rattle.laws.specs.Counting.Count.{is, is-same, is-other, is-le, below, below-in, below-lt, below-le, below-out, below-suc, same?}
-use Rattle.laws.specs.Counting.Sums.{sumTo, sum-same, sum-at, sum-none, is-sym, occurs-cons, sum-ones}
+use Rattle.laws.specs.Counting.Count.{is, is-other, is-le, below, below-in, below-lt, below-le, below-out, below-suc, same?}
+use Rattle.laws.specs.Counting.Sums.{sumTo, sum-same, sum-at, sum-none, is-sym, sum-ones, first-of}
 use Rattle.laws.specs.Invariant.Links.{Links, held, held-yes, leaf?, rankCount, rank-some}
 
 sum-add : (f g : ℕ → ℕ) (n : ℕ) → sumTo (λ k. f k + g k) n ≡ sumTo f n + sumTo g n
@@ -68,10 +65,6 @@ module _ {s : Settings} {A : ℕ → Node} {n root es : ℕ} {R x y o : ℕ → 
       ∙ sum-ones n
 
   -- a rank 0 node is a leaf, and holds an entry
-  first-of : (l : List ℕ) → 0 < length l → (c : ℕ) × (0 < occurs c l)
-  first-of [] h = absurd (not-suc-le-zero h)
-  first-of (c ∷ l) h = (c, let a = occurs-cons c c l in let b = is-same c c refl in omega arith)
-
   pub rank-zero : (k : ℕ) → k < n → R k ≡ 0 → A k .leaf ≡ true
   rank-zero k l e = go (leaf? (A k))
     where

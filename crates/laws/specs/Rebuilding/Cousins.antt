@@ -12,7 +12,7 @@ use Rattle.rules.specs.Tree.{Node, Tree, nodeAt, blankNode}
 use Rattle.rules.specs.Pairs.{Pair, partners, allLeaves, beneath, cousins}
 use Rattle.rules.specs.Lists.{occurs}
 use Rattle.laws.specs.Counting.Count.{is, is-same, is-other, same?, lt?}
-use Rattle.laws.specs.Counting.Sums.{occurs-cons, occurs-append, over, over-same, length-over, sumTo, sum-none, occurs-here, sum-ones, occurs-later}
+use Rattle.laws.specs.Counting.Sums.{occurs-cons, occurs-append, over, over-same, length-over, sumTo, sum-none, occurs-here, sum-ones, occurs-later, first-of, over-zero}
 use Rattle.laws.specs.Invariant.Height.{sum-le, rank-zero}
 use Rattle.laws.specs.Invariant.Links.{Links, nil, leaf?, rankCount, kid-in}
 use Rattle.laws.specs.Counting.Lists.{past-end}
@@ -116,15 +116,6 @@ sum-exceeds f g (suc n) h = go (lt? (f n) (g n)) (λ q. sum-exceeds f g n q)
     go (inl q) ih = (n, omega arith, q)
     go (inr q) ih = let r = ih (omega arith) in (r .0, (let z = r .1 in omega arith), r .2)
 
-first-of : (l : List ℕ) → 0 < length l → (c : ℕ) × (0 < occurs c l)
-first-of [] h = absurd (not-suc-le-zero h)
-first-of (c ∷ l) h = (c, let a = occurs-cons c c l in let b = is-same c c refl in omega arith)
-
-zeros : (l : List ℕ) → over (λ _. 0) l ≡ 0
-unfolding over
-zeros [] = refl
-zeros (x ∷ l) = let q = zeros l in omega arith
-
 module _ {s : Settings} (t : Tree) {R : ℕ → ℕ} (g : Links s (nodeAt t) (length (t .nodes)) (t .root) (length (t .entries)) R nil nil nil)
     (single : (k : ℕ) → k < length (t .nodes) → nodeAt t k .leaf ≡ true → length (nodeAt t k .list) ≤ 1) (two : 2 ≤ length (t .entries)) where
   fr : Frame (nodeAt t) (length (t .nodes)) (t .root) (length (t .entries)) R
@@ -206,7 +197,7 @@ module _ {s : Settings} (t : Tree) {R : ℕ → ℕ} (g : Links s (nodeAt t) (le
           by (inr e) =
               let a : over (λ m. is 0 (R m)) (nodeAt t k .list) ≡ over (λ _. 0) (nodeAt t k .list) =
               over-same (λ m. is 0 (R m)) (λ _. 0) (nodeAt t k .list) (λ c o. is-other 0 (R c) (λ z. e (g .kid k c l f o .1 ∙ ap suc (sym z)))) in
-              let b = zeros (nodeAt t k .list) in
+              let b = over-zero (nodeAt t k .list) in
               let d = opened in
               absurd (omega arith)
 

@@ -59,6 +59,15 @@ pub linked-is : (s : Settings) (p : List Float) (b : List ℕ) (parent : Option 
 unfolding linked relinked nodeIn
 linked-is s p b parent leaf list = refl
 
+-- the parent that a match has told
+pub no-parent : (p : Parent) → p ≡ P.NoParent → parentOf p ≡ none
+unfolding parentOf
+no-parent p e = rw e
+
+pub a-parent : (p : Parent) (i : ℕ) → p ≡ P.Node i → parentOf p ≡ some i
+unfolding parentOf
+a-parent p i e = rw e
+
 pub parent-fits : (q : Parent) → ParentFits q → parentOf q ≡ some noParent → ⊥
 unfolding parentOf ParentFits
 parent-fits (P.Node i) h e = let z : i ≡ noParent = cc in omega arith
@@ -106,6 +115,11 @@ module _ (s : Settings) (b : List ℕ) (k : Block s b) (p : List Float) where
   list-place i h =
       let l : i < lengthIn s (getD b 1 0) = rw list-length at h in
       getD-take (lengthIn s (getD b 1 0)) (drop 2 b) i 0 l ∙ getD-drop 2 b i 0
+
+  -- the list, cut out by a length that the code has worked out
+  pub list-part : (n : ℕ) → n ≡ length (nodeIn s p b .list) → take (2 + n - 2) (drop 2 b) ≡ nodeIn s p b .list
+  unfolding nodeIn
+  list-part n e = let m : 2 + n - 2 ≡ lengthIn s (getD b 1 0) = omega (arith, e, list-length) in ap (λ k. take k (drop 2 b)) m
 
 -- ---- writing
 

@@ -5,7 +5,7 @@ use mathlib.Core.Bool.{Bool, true, false}
 use mathlib.Core.List.{List, []}
 use native.Mathlib.Nat.{mul-le-mul-right, add-mul}
 use native.Mathlib.Omega.{arith}
-use lib.ListN.{length}
+use lib.ListN.{length, getD}
 use lib.Ieee.{Float}
 use Rattle.feature.specs.Summaries.{blank}
 use Rattle.feature.specs.Shape.{Shaped}
@@ -148,6 +148,10 @@ LinksTo s c ls d ks g = (fs : List Float) → treeOf s d fs ks ≡ g (treeOf s c
 unfoldable pub ChildIn : Counters → Bool → ℕ → Type 0
 ChildIn c true i = i < c .entries
 ChildIn c false i = i < c .nodes
+
+-- and so every number of a list
+unfoldable pub ChildrenIn : Counters → Bool → List ℕ → Type 0
+ChildrenIn c leaf l = (k : ℕ) → k < length l → ChildIn c leaf (getD l k 0)
 
 -- the slot of what a number of a list names
 unfoldable pub childSlot : Settings → Bool → ℕ → ℕ

@@ -94,6 +94,15 @@ pub fn list_len(s: Settings, b: &[u32]) -> usize
     if len < places { len } else { places }
 }
 
+// A block's list.
+pub fn list(s: Settings, b: &[u32]) -> &[u32]
+    requires { ⌜ Block s (now b) ⌝ }
+    ensures { λ r. ⌜ ((p : List Float) → now r ≡ nodeIn s p (now (b .entry)) .list) ⌝ }
+{
+    let len = list_len(s, b);
+    &b[2..2 + len]
+}
+
 // The number at a place of a block's list.
 pub fn list_at(s: Settings, b: &[u32], i: usize) -> usize
     requires { ⌜ Block s (now b) × ((p : List Float) → i < length (nodeIn s p (now b) .list)) ⌝ }

@@ -48,6 +48,14 @@ pub fn list_len(s: Settings, n: Counters, links: &[u32], i: usize) -> usize
     block::list_len(s, part(s, links, i))
 }
 
+// Node i's list.
+pub fn list(s: Settings, n: Counters, links: &[u32], i: usize) -> &[u32]
+    requires { ⌜ Links s n (length (now links)) × (i < n .nodes) ⌝ }
+    ensures { λ r. ⌜ AnyFloats s n (now (links .entry)) (λ t. now r ≡ nodeAt t i .list) ⌝ }
+{
+    block::list(s, part(s, links, i))
+}
+
 // The number at place k of node i's list.
 pub fn list_at(s: Settings, n: Counters, links: &[u32], i: usize, k: usize) -> usize
     requires { ⌜ Links s n (length (now links)) × (i < n .nodes) × AnyFloats s n (now links) (λ t. k < length (nodeAt t i .list)) ⌝ }

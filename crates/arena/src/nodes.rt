@@ -8,8 +8,9 @@ ghost use Rattle.distance.specs.Distances.{pointOf, betweenOf};
 ghost use Rattle.head.specs.Sizes.{nodeCap, blockWidth};
 ghost use Rattle.head.specs.Counting.{countNodes};
 ghost use Rattle.rules.specs.Tree.{push, merge, nodeAt, summed};
-ghost use Rattle.rules.specs.Slices.{treeOf};
+ghost use Rattle.rules.specs.Slices.{summaryIn, treeOf};
 ghost use Rattle.arena.specs.Blocks.{parentOf, ParentFits, nodeOf};
+ghost use Rattle.arena.specs.Slots.{Slot};
 ghost use Rattle.arena.specs.Trees.{AnyLinks, FloatsTo, Floats, Links, onNode, withNode};
 use crate::block::Parent;
 use crate::links;
@@ -41,6 +42,14 @@ pub fn to_row(s: Settings, n: Counters, floats: &[f64], i: usize, k: Distance, r
     ensures { λ r. ⌜ AnyLinks s n (now (floats .entry)) (λ t. r ≡ pointOf k (s .feature) (s .dim) (nodeAt t i .summary) (now (row .entry))) ⌝ }
 {
     slots::to_row(s, floats, i, k, row)
+}
+
+// The distance k between node i and the summary in another slot.
+pub fn to_slot(s: Settings, n: Counters, floats: &[f64], i: usize, k: Distance, o: &[f64]) -> f64
+    requires { ⌜ Floats s n (length (now floats)) × (i < n .nodes) × Slot s (now o) ⌝ }
+    ensures { λ r. ⌜ AnyLinks s n (now (floats .entry)) (λ t. r ≡ betweenOf k (s .feature) (s .dim) (nodeAt t i .summary) (summaryIn s (now (o .entry)))) ⌝ }
+{
+    slots::to_slot(s, floats, i, k, o)
 }
 
 // The distance k between node i and a summary.

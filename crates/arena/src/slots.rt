@@ -5,7 +5,8 @@ ghost use lib.ListN.{length};
 ghost use Rattle.feature.specs.Shape.{Shaped};
 ghost use Rattle.distance.specs.Distances.{pointOf, betweenOf};
 ghost use Rattle.rules.specs.Tree.{push, merge};
-ghost use Rattle.rules.specs.Slices.{slotAt};
+ghost use Rattle.rules.specs.Slices.{slotAt, summaryIn};
+ghost use Rattle.arena.specs.Slots.{Slot};
 ghost use Rattle.arena.specs.Numbered.{SlotIn, summaryAt, Changed};
 use crate::slot;
 use distance::Distance;
@@ -52,6 +53,14 @@ pub fn to_summary(s: Settings, floats: &[f64], i: usize, k: Distance, c: Summary
     ensures { λ r. ⌜ r ≡ betweenOf k (s .feature) (s .dim) (summaryAt s (now (floats .entry)) i) c ⌝ }
 {
     slot::to_summary(s, k, part(s, floats, i), c)
+}
+
+// The distance k between slot i and the summary in another slot.
+pub fn to_slot(s: Settings, floats: &[f64], i: usize, k: Distance, o: &[f64]) -> f64
+    requires { ⌜ SlotIn s i (length (now floats)) × Slot s (now o) ⌝ }
+    ensures { λ r. ⌜ r ≡ betweenOf k (s .feature) (s .dim) (summaryAt s (now (floats .entry)) i) (summaryIn s (now (o .entry))) ⌝ }
+{
+    slot::between(s, k, part(s, floats, i), o)
 }
 
 // The distance k between slots i and j.

@@ -16,7 +16,7 @@ use Rattle.rules.specs.Tree.{Tree, push, distTo, fresh, withEntries}
 use Rattle.rules.specs.Descent.{leafFor, alongPath}
 use Rattle.rules.specs.Split.{splitUp, crowned}
 use Rattle.rules.specs.Insert.{placed, grown}
-use Rattle.rules.specs.Pairs.{Pair}
+use Rattle.rules.specs.declared.Pair.{Pair}
 use Rattle.rules.specs.Rebuild.{Merging, renumber, dropped, withMerges, insertedAll}
 use Rattle.rules.specs.Refit.{route}
 use Rattle.rules.specs.Check.{linked}

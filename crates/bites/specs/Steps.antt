@@ -13,7 +13,7 @@ use Rattle.rules.specs.Lists.{changeAt, snoc, keep, flip}
 use Rattle.rules.specs.Tree.{Node, Tree, push, distTo, nodeAt, entryAt, withNodes}
 use Rattle.rules.specs.Split.{stays, half, split}
 use Rattle.rules.specs.Insert.{absorbed, absorbedOrBegun}
-use Rattle.rules.specs.Pairs.{Pair}
+use Rattle.rules.specs.declared.Pair.{Pair}
 use Rattle.rules.specs.Reinsert.{collected, cleared, replacedAll, reinserted}
 use Rattle.rules.specs.Refold.{refolded}
 use Rattle.rules.specs.Rebuild.{Merging, mergeOne, counted, rebuilt, inserted, insertedAll}

@@ -3,22 +3,24 @@
 use Prim.Native.Nat.{ℕ, zero, suc, _+_, _≤_, _<_}
 use mathlib.Core.Path.{_≡_, refl, sym, subst}
 use mathlib.Core.Logic.{inl, inr}
-use mathlib.Core.Bool.{true, false, true≢false}
-use mathlib.Core.Option.{some, Option·none-ne-some}
+use mathlib.Core.Bool.{Bool, true, false, true≢false, cond}
+use mathlib.Core.Option.{none, some, Option·none-ne-some}
 use native.Mathlib.Omega.{arith}
 use lib.ListN.{length}
 use lib.Ieee.{Float}
 use Rattle.feature.specs.declared.Summary.{Summary}
 use Rattle.head.specs.declared.Settings.{Settings}
+use Rattle.head.specs.Sizes.{entryCap}
 use Rattle.rules.specs.Descent.{descended, leafFor, alongPath}
 use Rattle.rules.specs.Lists.{occurs}
 use Rattle.rules.specs.Tree.{Tree, nodeAt, cap, summed, withNodes}
-use Rattle.laws.specs.Counting.Sums.{sumTo, sum-at}
+use Rattle.laws.specs.Counting.Sums.{over, length-over, sumTo, sum-at, sum-ones, sum-le}
 use Rattle.laws.specs.Counting.Count.{below-lt}
 use Rattle.laws.specs.Invariant.Links.{held, held-yes, kid-in, parent-lists, nil}
 use Rattle.laws.specs.Invariant.Sound.{Settled, Looking}
 use Rattle.laws.specs.Inserting.Descent.{leaf-found}
 use Rattle.laws.specs.Invariant.Height.{height}
+pub use Rattle.laws.specs.Invariant.Beneath.{Frame, frame-of, kid-below, entry-below, leaves-sum, inners-sum}
 use Rattle.laws.specs.Inserting.Grown.{climb-keeps}
 use Rattle.laws.specs.Inserting.First.{emptyTree, Holding}
 pub use Rattle.laws.specs.Inserting.First.{rowPlaced, PlacedRow, row-placed, grown-holds}
@@ -77,6 +79,46 @@ empty-sure s z h r m = record { root-in = omega arith; filled = fl; nodes-in = n
 pub sure-of : (s : Settings) (t : Tree) (total : ℕ) → Holding s t total → Sure s t
 sure-of s t total (inl b) = let q = b .0 in subst (λ u. Sure s u) (sym (q .5)) (empty-sure s (q .0) (q .1) (q .2) (q .3))
 sure-of s t total (inr w) = settled-sure s t (w .0) total (w .1)
+
+-- the links are a frame for some ranks
+pub record Framed (t : Tree) : Type 0 where
+  pub R : ℕ → ℕ
+  pub frame : Frame (nodeAt t) (length (t .nodes)) (t .root) (length (t .entries)) R
+
+pub settled-framed : (s : Settings) (t : Tree) (R : ℕ → ℕ) (total : ℕ) → Settled s t R total → Framed t
+settled-framed s t R total g = record { R = R; frame = frame-of s (nodeAt t) (length (t .nodes)) (t .root) (length (t .entries)) R nil nil (g .links) }
+
+-- how many leaves there are
+unfoldable pub leafCount : Tree → ℕ
+leafCount t = sumTo (λ k. cond (nodeAt t k .leaf) 1 0) (length (t .nodes))
+
+-- a frame in which no inner node is empty; leaves and entries have room in the entries' cap. Leaves may be empty, as some are before a reinsertion
+pub record Standing (s : Settings) (t : Tree) : Type 0 where
+  pub framed : Framed t
+  pub root-top : nodeAt t (t .root) .parent ≡ none
+  pub inners : (i : ℕ) → i < length (t .nodes) → nodeAt t i .leaf ≡ false → 0 < length (nodeAt t i .list)
+  pub leaves-few : leafCount t ≤ entryCap s
+  pub entries-few : length (t .entries) ≤ entryCap s
+
+-- each leaf of a settled tree has an entry of its own
+pub settled-standing : (s : Settings) (t : Tree) (R : ℕ → ℕ) (total : ℕ) → Settled s t R total → length (t .entries) ≤ entryCap s → Standing s t
+unfolding leafCount
+settled-standing s t R total g few = record {
+  framed = settled-framed s t R total g;
+  root-top = g .links .root-top;
+  inners = (λ i l f. g .links .filled i l);
+  leaves-few =
+      (let a = leaves-sum (settled-framed s t R total g .frame) (λ _. 1) in
+      let b = sum-ones (length (t .entries)) in
+      let c = sum-le (λ k. cond (nodeAt t k .leaf) 1 0) (λ k. cond (nodeAt t k .leaf) (over (λ _. 1) (nodeAt t k .list)) 0) (length (t .nodes))
+      (λ k l. one k l (nodeAt t k .leaf)) in
+      omega arith);
+  entries-few = few;
+}
+  where
+    one : (k : ℕ) → k < length (t .nodes) → (b : Bool) → cond b 1 0 ≤ cond b (over (λ _. 1) (nodeAt t k .list)) 0
+    one k l true = let a = length-over (nodeAt t k .list) in let b = g .links .filled k l in omega arith
+    one k l false = omega arith
 
 -- the leaf that a descent finds is one
 abbrev AtLeaf : Settings → (Summary → Float) → Tree → Type 0

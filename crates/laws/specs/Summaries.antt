@@ -20,7 +20,8 @@ use Rattle.rules.specs.Split.{gathered, stays, adopted, half, parted, split, cr
 use Rattle.rules.specs.Insert.{begun, absorbed, absorbs, absorbedOrBegun, placed, grownAt, grown}
 use Rattle.rules.specs.Reinsert.{collected, cleared, replaced, replacedAll, reinserted}
 use Rattle.rules.specs.Refold.{foldBalanced, refoldOne, refoldAll, refolded, preorder}
-use Rattle.rules.specs.Pairs.{Pair, siblings, cousins, sorted}
+use Rattle.rules.specs.Pairs.{siblings, cousins, sorted}
+use Rattle.rules.specs.declared.Pair.{Pair}
 use Rattle.rules.specs.Rebuild.{Merging, mergeOne, bothAlive, mergeAll, pruned, dropped, withMerges, rebalanced}
 use Rattle.rules.specs.Rebuild.{compacted, mergedBy, mergedWith, counted, rebuilt, inserted, insertedAll}
 use Rattle.rules.specs.Refit.{route, poured, reaccumulated, used, anyHollow, refitRounds, refitted}

@@ -3,10 +3,11 @@
 // six distances from a to b's mean, 8 to 13 those between a and b, 14 is what merging a and b costs.
 ghost use Prim.Native.Nat.{_+_, _*_, _≤_};
 ghost use Rattle.feature.specs.Summaries.{Dim};
-use crate::words::Word;
 use distance::Distance;
 use feature::Feature;
 use feature::Summary;
+use replay::words;
+use replay::words::Word;
 
 pub enum Outcome {
     Agrees,
@@ -24,14 +25,14 @@ enum Heading {
 }
 
 fn begun() -> Heading {
-    match crate::words::next(b' ') {
+    match words::next(b' ') {
         Word::End => Heading::End,
         Word::Malformed => Heading::Malformed,
         Word::Number(step) => {
-            let Word::Number(f) = crate::words::next(b' ') else {
+            let Word::Number(f) = words::next(b' ') else {
                 return Heading::Malformed;
             };
-            let Word::Number(dim) = crate::words::next(b' ') else {
+            let Word::Number(dim) = words::next(b' ') else {
                 return Heading::Malformed;
             };
             Heading::Of(step, f, dim)
@@ -54,7 +55,7 @@ fn fill(x: &mut [f64; 51], n: usize) -> bool
 {
     for i in 0..n {
         let after = if i + 1 == n { b'\n' } else { b' ' };
-        let Word::Number(bits) = crate::words::next(after) else {
+        let Word::Number(bits) = words::next(after) else {
             return false;
         };
         x[i] = binary64::of_bits(bits);

@@ -11,12 +11,7 @@ use Rattle.distance.specs.Distances.{mergeCost}
 use Rattle.head.specs.declared.Settings.{Settings}
 use Rattle.rules.specs.Tree.{Node, Tree, nodeAt, entryAt}
 use Rattle.rules.specs.Descent.{Best, best, closer}
-
--- an entry, the partner it names, and what their merge costs
-pub record Pair : Type 0 where
-  pub cost : Float
-  pub one : ℕ
-  pub two : ℕ
+use Rattle.rules.specs.declared.Pair.{Pair}
 
 -- ---- the cheapest partner
 

@@ -14,7 +14,8 @@ use Rattle.head.specs.declared.Settings.{Settings}
 use Rattle.rules.specs.Lists.{changeAt, keep, countUp}
 use Rattle.rules.specs.Tree.{Node, Tree, merge, absBetween, withNodes, withEntries, withMerged, listing}
 use Rattle.rules.specs.Insert.{grown}
-use Rattle.rules.specs.Pairs.{Pair, siblings, cousins, sorted}
+use Rattle.rules.specs.Pairs.{siblings, cousins, sorted}
+use Rattle.rules.specs.declared.Pair.{Pair}
 use Rattle.rules.specs.Reinsert.{reinserted}
 use Rattle.rules.specs.Refold.{refolded}
 

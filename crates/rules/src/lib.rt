@@ -20,3 +20,10 @@ pub struct Places {
     pub means: usize,
     pub deviations: usize,
 }
+
+// An entry, the partner it names, and what their merge costs.
+pub struct Pair {
+    pub cost: f64,
+    pub one: usize,
+    pub two: usize,
+}

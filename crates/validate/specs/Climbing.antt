@@ -25,9 +25,22 @@ stepsUp t (suc k) (some n) = cond (eqb n (t .root)) 0 (suc (stepsUp t k (nodeAt 
 unfoldable pub depth : Tree → ℕ → ℕ
 depth t n = stepsUp t (length (t .nodes)) (some n)
 
+-- whether at most k steps up meet the root, or a number below n
+unfoldable pub meets : Tree → ℕ → ℕ → Option ℕ → Bool
+meets t n zero o = false
+meets t n (suc k) none = false
+meets t n (suc k) (some i) = eqb i (t .root) || (ltb i n || meets t n k (nodeAt t i .parent))
+
+unfoldable pub meetsRoot : Tree → ℕ → Bool
+meetsRoot t n = meets t n (length (t .nodes)) (some n)
+
 unfoldable pub reaches : Tree → ℕ → Bool
 reaches t n = ltb (depth t n) (length (t .nodes))
 
 -- every node of a list names its owner, hangs once and reaches the root
 unfoldable pub climbs : Tree → Bool
 climbs t = every (λ n. ownList t n && (hangs t n && reaches t n)) (upFrom (length (t .nodes)) 0)
+
+-- the same with shorter climbs
+unfoldable pub meeting : Tree → Bool
+meeting t = every (λ n. ownList t n && (hangs t n && meetsRoot t n)) (upFrom (length (t .nodes)) 0)

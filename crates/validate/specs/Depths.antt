@@ -20,7 +20,7 @@ use Rattle.validate.specs.Climbing.{stepsUp, depth}
 -- ---- climbing with more steps to spare
 
 module _ (t : Tree) where
-  steps-more : (k : ℕ) (o : Option ℕ) → stepsUp t k o < k → stepsUp t (suc k) o ≡ stepsUp t k o
+  pub steps-more : (k : ℕ) (o : Option ℕ) → stepsUp t k o < k → stepsUp t (suc k) o ≡ stepsUp t k o
   unfolding stepsUp
   steps-more zero o h = absurd (omega arith)
   steps-more (suc k) none h = absurd (omega arith)

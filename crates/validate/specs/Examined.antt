@@ -1,6 +1,6 @@
 -- The tree check as code works it out, without a mark on any node: the same verdict as document 01's for every tree of binary64 floats.
 use Prim.Native.Nat.{ℕ, suc, _≤_}
-use mathlib.Core.Path.{_≡_, refl, ap, _∙_}
+use mathlib.Core.Path.{_≡_, refl, sym, ap, _∙_}
 use mathlib.Core.Bool.{Bool, true, false, _&&_}
 use mathlib.Core.List.{List, [], _∷_}
 use lib.Dec.{T, leb, leb→le}
@@ -9,22 +9,29 @@ use lib.ListN.{length}
 use Rattle.head.specs.declared.Settings.{Settings}
 use Rattle.head.specs.Sizes.{nodeCap}
 use Rattle.rules.specs.declared.Verdict.{Verdict}
+use Rattle.rules.specs.declared.Verdict.the-variants.{Fails}
 use Rattle.rules.specs.Lists.{every}
 use Rattle.rules.specs.Tree.{Tree}
 use Rattle.rules.specs.Check.{sized, rooted, listFits, linked, onceEach, leafLists, filled, level, weighed, unsettled, lowest, checked}
 use Rattle.laws.specs.Check.Taken.{Binary64}
-use Rattle.validate.specs.Climbing.{climbs}
+use Rattle.validate.specs.Climbing.{meeting}
+use Rattle.validate.specs.Meeting.{meeting-is}
 use Rattle.validate.specs.Linked.{linked-is}
-use Rattle.validate.specs.Evenly.{evenly}
 use Rattle.validate.specs.Leveled.{level-is}
+use Rattle.validate.specs.Forking.{forking}
+use Rattle.validate.specs.Forked.{forking-is}
 use Rattle.validate.specs.Adding.{summed}
 use Rattle.validate.specs.Weighed.{weighed-is}
 
 unfoldable pub hung : Tree → Bool
-hung t = climbs t && onceEach (length (t .entries)) (leafLists (t .nodes))
+hung t = meeting t && onceEach (length (t .entries)) (leafLists (t .nodes))
+
+-- the eight conditions in their order
+unfoldable pub conditions : Settings → Tree → List Bool
+conditions s t = sized s t ∷ rooted t ∷ every (listFits s t) (t .nodes) ∷ hung t ∷ filled t ∷ forking t ∷ summed t ∷ unsettled s t ∷ []
 
 unfoldable pub examined : Settings → Tree → Verdict
-examined s t = lowest 1 (sized s t ∷ rooted t ∷ every (listFits s t) (t .nodes) ∷ hung t ∷ filled t ∷ evenly t ∷ summed t ∷ unsettled s t ∷ [])
+examined s t = lowest 1 (conditions s t)
 
 -- a condition may be replaced by one that is the same where those before it hold
 onward : (i : ℕ) (b c : Bool) (bs cs : List Bool) → b ≡ c → (T b → lowest (suc i) bs ≡ lowest (suc i) cs) → lowest i (b ∷ bs) ≡ lowest i (c ∷ cs)
@@ -34,18 +41,32 @@ onward i b c bs cs e h = go b h ∙ ap (λ z. lowest i (z ∷ cs)) e
     go true h = unfold lowest in h tt
     go false h = unfold lowest in refl
 
+linked-hung : (s : Settings) (t : Tree) → T (rooted t) → T (every (listFits s t) (t .nodes)) → linked t ≡ hung t
+unfolding hung
+linked-hung s t h2 h3 = linked-is s t h2 h3 ∙ ap (λ b. b && onceEach (length (t .entries)) (leafLists (t .nodes))) (meeting-is t)
+
 pub checked-is : (s : Settings) (t : Tree) → Binary64 t → checked s t ≡ examined s t
-unfolding checked examined
+unfolding checked examined conditions
 checked-is s t lent =
     onward 1 (sized s t) (sized s t) _ _ refl λ h1.
     onward 2 (rooted t) (rooted t) _ _ refl λ h2.
     onward 3 (every (listFits s t) (t .nodes)) (every (listFits s t) (t .nodes)) _ _ refl λ h3.
-    onward 4 (linked t) (hung t) _ _ (unfold hung in linked-is s t h2 h3) λ h4.
+    onward 4 (linked t) (hung t) _ _ (linked-hung s t h2 h3) λ h4.
     onward 5 (filled t) (filled t) _ _ refl λ h5.
-    onward 6 (level t) (evenly t) _ _ (level-is s t h2 h3 h4 h5) λ h6.
+    onward 6 (level t) (forking t) _ _ (level-is s t h2 h3 h4 h5 ∙ forking-is s t h2 h3 h4 h5) λ h6.
     onward 7 (weighed t) (summed t) _ _ (weighed-is s t h2 h3 h4 h5 h6 lent (few h1)) λ h7. refl
   where
     few : T (sized s t) → length (t .entries) ≤ s .«max_leaves»
     few h =
         unfold sized in leb→le (length (t .entries)) (s .«max_leaves»)
         (and-r (leb 1 (length (t .nodes)) && leb (length (t .nodes)) (nodeCap s)) (leb (length (t .entries)) (s .«max_leaves»)) h)
+
+-- ---- the verdict v as the tests go on: the first that fails is its number, one that holds leaves it to the rest
+
+pub fails : {v : Verdict} (i : ℕ) (b : Bool) (bs : List Bool) → v ≡ lowest i (b ∷ bs) → b ≡ false → Fails i ≡ v
+unfolding lowest
+fails i b bs e h = sym (e ∙ ap (λ z. lowest i (z ∷ bs)) h)
+
+pub holds : {v : Verdict} (i : ℕ) (b : Bool) (bs : List Bool) → v ≡ lowest i (b ∷ bs) → b ≡ true → v ≡ lowest (suc i) bs
+unfolding lowest
+holds i b bs e h = e ∙ ap (λ z. lowest i (z ∷ bs)) h

@@ -28,11 +28,11 @@ use Rattle.validate.specs.Linked.{linked-climbs, hung-tree}
 use Rattle.validate.specs.Widths.{greatest-least, width-is, deep-in, turned, none-count, some-count}
 
 module _ (s : Settings) (t : Tree) (h2 : T (rooted t)) (h3 : T (every (listFits s t) (t .nodes))) (h4 : T (linked t)) (h5 : T (filled t)) where
-  hung : Hung t
+  pub hung : Hung t
   hung = hung-tree s t h2 h3 (linked-climbs s t h2 h3 h4)
 
   -- a child is one deeper
-  kid-deeper : (i c : ℕ) → i < length (t .nodes) → nodeAt t i .leaf ≡ false → 0 < occurs c (nodeAt t i .list) → depth t c ≡ suc (depth t i)
+  pub kid-deeper : (i c : ℕ) → i < length (t .nodes) → nodeAt t i .leaf ≡ false → 0 < occurs c (nodeAt t i .list) → depth t c ≡ suc (depth t i)
   kid-deeper i c l f o =
       let (up, cn) = hung .own i c l f o in
       depth-parent t c i (λ e. not-root i (sym (ap (λ z. nodeAt t z .parent) (sym e))) up) up (hung .reach c cn)

@@ -100,6 +100,11 @@ unfolding sumTo
 sum-same g h zero e = refl
 sum-same g h (suc n) e = let a : h n ≡ g n = e n (omega arith) in let b : sumTo h n ≡ sumTo g n = sum-same g h n (λ k q. e k (omega arith)) in omega arith
 
+pub sum-le : (g h : ℕ → ℕ) (n : ℕ) → ((k : ℕ) → k < n → g k ≤ h k) → sumTo g n ≤ sumTo h n
+unfolding sumTo
+sum-le g h zero q = omega arith
+sum-le g h (suc n) q = let a = sum-le g h n (λ k l. q k (omega arith)) in let b = q n (omega arith) in omega arith
+
 pub sum-ones : (n : ℕ) → sumTo (λ _. 1) n ≡ n
 unfolding sumTo
 sum-ones zero = refl

@@ -13,7 +13,8 @@ use Rattle.feature.specs.Summaries.{blank}
 use Rattle.head.specs.declared.Settings.{Settings}
 use Rattle.rules.specs.Lists.{snoc, occurs}
 use Rattle.rules.specs.Tree.{Tree, nodeAt, entryAt, withMerged}
-use Rattle.rules.specs.Pairs.{Pair, sorted, siblings, cousins}
+use Rattle.rules.specs.Pairs.{sorted, siblings, cousins}
+use Rattle.rules.specs.declared.Pair.{Pair}
 use Rattle.rules.specs.Rebuild.{Merging, mergeOne, bothAlive, mergeAll, target, renumber, dropped}
 use Rattle.rules.specs.Rebuild.{withMerges, rebalanced, compacted, mergedBy, mergedWith, counted, rebuilt}
 use Rattle.rules.specs.Reinsert.{collected, replaced, replacedAll, cleared, reinserted}

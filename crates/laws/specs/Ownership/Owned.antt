@@ -17,7 +17,7 @@ use Rattle.rules.specs.declared.Nearest.the-variants.{Entry, Nothing}
 use Rattle.rules.specs.Lists.{changeAt, snoc, countUp, occurs}
 use Rattle.rules.specs.Tree.{push, Tree, entryAt, withNodes, withEntries}
 use Rattle.rules.specs.Insert.{begun, absorbed, absorbedOrBegun, absorbs}
-use Rattle.rules.specs.Pairs.{Pair}
+use Rattle.rules.specs.declared.Pair.{Pair}
 use Rattle.rules.specs.Rebuild.{renumber, dropped}
 use Rattle.rules.specs.Check.{rowsIn}
 use Rattle.laws.specs.Invariant.Weights.{IsExact, exact-count, blank-exact, push-weigh}

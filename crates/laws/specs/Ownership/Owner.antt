@@ -16,7 +16,8 @@ use Rattle.rules.specs.Lists.{snoc, occurs, every}
 use Rattle.rules.specs.Tree.{push, distTo, Tree, nodeAt, entryAt, withEntries, withMerged}
 use Rattle.rules.specs.Descent.{searched, leafFor, alongPath}
 use Rattle.rules.specs.Insert.{grown, absorbs}
-use Rattle.rules.specs.Pairs.{Pair, sorted, siblings, cousins}
+use Rattle.rules.specs.Pairs.{sorted, siblings, cousins}
+use Rattle.rules.specs.declared.Pair.{Pair}
 use Rattle.rules.specs.Rebuild.{Merging, mergeOne, bothAlive, mergeAll, target, renumber, dropped, withMerges, inserted}
 use Rattle.rules.specs.Reinsert.{collected, reinserted}
 use Rattle.rules.specs.Refit.{route, reaccumulated, used, anyHollow}

@@ -9,7 +9,8 @@ use native.Mathlib.Omega.{arith}
 use lib.ListN.{length, getD, length-append}
 use Rattle.head.specs.declared.Settings.{Settings}
 use Rattle.rules.specs.Tree.{Node, Tree, nodeAt, blankNode}
-use Rattle.rules.specs.Pairs.{Pair, partners, allLeaves, beneath, cousins}
+use Rattle.rules.specs.Pairs.{partners, allLeaves, beneath, cousins}
+use Rattle.rules.specs.declared.Pair.{Pair}
 use Rattle.rules.specs.Lists.{occurs}
 use Rattle.laws.specs.Counting.Count.{is, is-same, is-other, same?, lt?}
 use Rattle.laws.specs.Counting.Sums.{occurs-cons, occurs-append, over, over-same, length-over, sumTo, sum-none, occurs-here, sum-ones, occurs-later, first-of, over-zero}

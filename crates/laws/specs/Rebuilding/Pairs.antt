@@ -13,7 +13,8 @@ use lib.Ieee.{Float, lt}
 use Rattle.head.specs.declared.Settings.{Settings}
 use Rattle.rules.specs.Tree.{Node, Tree, nodeAt, blankNode}
 use Rattle.rules.specs.Descent.{Best, best, closer}
-use Rattle.rules.specs.Pairs.{Pair, partner, pairOf, costOf, partners, siblings, sortIn, sorted, cheaper}
+use Rattle.rules.specs.Pairs.{partner, pairOf, costOf, partners, siblings, sortIn, sorted, cheaper}
+use Rattle.rules.specs.declared.Pair.{Pair}
 use Rattle.rules.specs.Lists.{occurs}
 use Rattle.laws.specs.Counting.Count.{is, is-same, is-other, eq-test, same?, lt?, either}
 use Rattle.laws.specs.Counting.Sums.{occurs-cons, occurs-here, occurs-later}

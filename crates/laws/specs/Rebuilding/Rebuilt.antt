@@ -13,7 +13,8 @@ use Rattle.feature.specs.Summaries.{blank}
 use Rattle.head.specs.declared.Settings.{Settings}
 use Rattle.rules.specs.Lists.{countUp, occurs}
 use Rattle.rules.specs.Tree.{Tree, nodeAt, entryAt, withMerged}
-use Rattle.rules.specs.Pairs.{Pair, sorted, siblings, cousins}
+use Rattle.rules.specs.Pairs.{sorted, siblings, cousins}
+use Rattle.rules.specs.declared.Pair.{Pair}
 use Rattle.rules.specs.Rebuild.{Merging, mergeAll, bothAlive, dropped, withMerges, target, rebalanced, compacted, mergedBy, mergedWith, counted, rebuilt}
 use Rattle.rules.specs.Reinsert.{reinserted}
 use Rattle.rules.specs.Refold.{refolded}

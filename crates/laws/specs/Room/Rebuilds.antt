@@ -12,7 +12,8 @@ use Rattle.feature.specs.Summaries.{blank}
 use Rattle.feature.specs.declared.Summary.{Summary}
 use Rattle.head.specs.declared.Settings.{Settings}
 use Rattle.rules.specs.Tree.{Node, Tree, merge, nodeAt, blankNode, child, withNodes, withEntries, withMerged, summed}
-use Rattle.rules.specs.Pairs.{Pair, sorted, siblings, cousins}
+use Rattle.rules.specs.Pairs.{sorted, siblings, cousins}
+use Rattle.rules.specs.declared.Pair.{Pair}
 use Rattle.rules.specs.Reinsert.{reinserted}
 use Rattle.rules.specs.Refold.{foldBalanced, refoldOne, preorder, refoldAll, refolded}
 use Rattle.rules.specs.Rebuild.{target, Merging, mergeOne, bothAlive, mergeAll, dropped, withMerges, rebalanced}

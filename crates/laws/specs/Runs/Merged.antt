@@ -10,7 +10,8 @@ use lib.Ieee.{Float}
 use Rattle.head.specs.declared.Settings.{Settings}
 use Rattle.rules.specs.Tree.{Tree, withMerged}
 use Rattle.rules.specs.Insert.{grown}
-use Rattle.rules.specs.Pairs.{Pair, siblings, cousins}
+use Rattle.rules.specs.Pairs.{siblings, cousins}
+use Rattle.rules.specs.declared.Pair.{Pair}
 use Rattle.rules.specs.Rebuild.{Merging, dropped, withMerges, rebalanced, compacted, mergedBy, mergedWith, counted, rebuilt, inserted}
 use Rattle.rules.specs.Reinsert.{reinserted}
 use Rattle.laws.specs.Counters.{grown-counters, reinserted-counters, refolded-counters}

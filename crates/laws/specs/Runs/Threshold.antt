@@ -17,7 +17,8 @@ use Rattle.rules.specs.Rebuild.{growth, Merging, dropped, grownThreshold, withM
 use Rattle.rules.specs.Rebuild.{mergedBy, mergedWith, counted, rebuilt, inserted, insertedAll}
 use Rattle.rules.specs.Tree.{Tree, withNodes, withEntries, withMerged}
 use Rattle.rules.specs.Insert.{grown}
-use Rattle.rules.specs.Pairs.{Pair, siblings, cousins}
+use Rattle.rules.specs.Pairs.{siblings, cousins}
+use Rattle.rules.specs.declared.Pair.{Pair}
 use Rattle.rules.specs.Reinsert.{reinserted}
 use Rattle.rules.specs.Refit.{refitted}
 use Rattle.laws.specs.Counters.{refolded-counters, reinserted-counters, refitted-counters, grown-counters}

@@ -1,0 +1,53 @@
+// What goes into a tree: a row, or a summary in a slot of its own.
+ghost use mathlib.Core.Path.{_≡_};
+ghost use Prim.Native.Nat.{_<_};
+ghost use lib.ListN.{length};
+ghost use Rattle.head.specs.Limits.{Sized};
+ghost use Rattle.rules.specs.Tree.{nodeAt, summed};
+ghost use Rattle.arena.specs.Trees.{AnyLinks, FloatsTo, Floats, onNode};
+ghost use Rattle.descent.specs.Items.{Fits, distanceTo, taking, alone};
+use arena::nodes;
+use arena::slot;
+use feature::Summary;
+use head::Counters;
+use head::Settings;
+
+pub enum Item {
+    Row,
+    Slot,
+}
+
+// `dist` between node i and an item.
+pub fn to_node(s: Settings, n: Counters, floats: &[f64], i: usize, item: Item, x: &[f64]) -> f64
+    requires { ⌜ Floats s n (length (now floats)) × (i < n .nodes) × Fits s item (now x) ⌝ }
+    ensures { λ r. ⌜ AnyLinks s n (now (floats .entry)) (λ t. r ≡ distanceTo s item (now (x .entry)) (nodeAt t i .summary)) ⌝ }
+{
+    let k = s.dist;
+    match item {
+        Item::Row => nodes::to_row(s, n, floats, i, k, x),
+        Item::Slot => nodes::to_slot(s, n, floats, i, k, x),
+    }
+}
+
+// An item goes into node i: a row is pushed, a summary merged.
+pub fn feed(s: Settings, n: Counters, floats: &mut [f64], i: usize, item: Item, x: &[f64])
+    requires { ⌜ Floats s n (length (now floats)) × (i < n .nodes) × Fits s item (now x) ⌝ }
+    ensures { λ _. ⌜ FloatsTo s n (now (floats .entry)) n (now (floats .exit)) (onNode (summed (taking s item (now (x .entry)))) i) ⌝ }
+{
+    match item {
+        Item::Row => nodes::push(s, n, floats, i, x),
+        Item::Slot => nodes::merge(s, n, floats, i, slot::load(s, x)),
+    }
+}
+
+// The summary of an item alone: a row in an empty one, or the summary itself.
+pub fn alone(s: Settings, item: Item, x: &[f64]) -> Summary
+    requires { ⌜ Sized s × Fits s item (now x) ⌝ }
+    ensures { λ r. ⌜ r ≡ alone s item (now (x .entry)) ⌝ }
+{
+    let f = s.feature;
+    match item {
+        Item::Row => feature::push(f, s.dim, feature::empty(), x),
+        Item::Slot => slot::load(s, x),
+    }
+}

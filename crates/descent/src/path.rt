@@ -1,0 +1,43 @@
+// The path from a leaf up to the root.
+ghost use mathlib.Core.Path.{_≡_};
+ghost use Prim.Native.Nat.{_<_};
+ghost use lib.ListN.{length};
+ghost use Rattle.rules.specs.Slices.{treeOf};
+ghost use Rattle.rules.specs.Descent.{alongPath};
+ghost use Rattle.arena.specs.Trees.{Floats, Links};
+ghost use Rattle.laws.specs.ForCode.{Sure};
+ghost use Rattle.descent.specs.Items.{Fits, taking};
+use crate::item;
+use crate::item::Item;
+use arena::block::Parent;
+use arena::links;
+use head::Counters;
+use head::Settings;
+
+// An item goes into every node from a leaf up to the root.
+pub fn feed_path(
+    s: Settings,
+    n: Counters,
+    floats: &mut [f64],
+    links: &[u32],
+    leaf: usize,
+    item: Item,
+    x: &[f64],
+)
+    requires { ⌜ Floats s n (length (now floats)) × Links s n (length (now links)) × Fits s item (now x) ⌝ }
+    requires { ⌜ Sure s (treeOf s n (now floats) (now links)) × (leaf < n .nodes) ⌝ }
+    ensures { λ _. ⌜
+        treeOf s n (now (floats .exit)) (now (links .entry))
+        ≡ alongPath (taking s item (now (x .entry))) leaf (treeOf s n (now (floats .entry)) (now (links .entry))) ⌝ }
+{
+    let mut i = leaf;
+    let mut left = n.nodes;
+    while left > 0 {
+        item::feed(s, n, floats, i, item, x);
+        let Parent::Node(p) = links::parent(s, n, links, i) else {
+            return;
+        };
+        i = p;
+        left -= 1;
+    }
+}

@@ -1,0 +1,3 @@
+-- What a rebuild keeps in scratch.
+pub mod Stored
+pub mod Flags

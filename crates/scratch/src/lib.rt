@@ -1,0 +1,2 @@
+// What a rebuild keeps in scratch.
+pub mod stored;

@@ -1,0 +1,9 @@
+-- Laws of the split and of its way up.
+pub mod Gather
+pub mod Seeds
+pub mod Halves
+pub mod Parts
+pub mod Crown
+pub mod Rising
+pub mod Splitting
+pub mod Up

@@ -44,6 +44,9 @@ module _ (s : Settings) (n : Counters) (fs : List Float) (ls : List ℕ) where
   unfolding entryCap
   sized-floats z r h = let c = counts-in h in record { sized = z; nodes-in = c .0; entries-in = omega arith; room = r }
 
+  pub sized-few : Sized s → sized s (treeOf s n fs ls) ≡ true → n .entries ≤ 256
+  sized-few z h = let a = counts-in h .1 in let b = z .most-few in omega arith
+
   -- ---- condition 2: the root is a node
 
   pub rooted-in : rooted (treeOf s n fs ls) ≡ true → n .root < n .nodes

@@ -2,7 +2,7 @@
 use Prim.Native.Nat.{ℕ, _≤_, _<_}
 use mathlib.Core.Path.{_≡_, refl, sym, ap, _∙_, subst}
 use mathlib.Core.Bool.{Bool, true, false, cond}
-use mathlib.Core.List.{List, [], _∷_}
+use mathlib.Core.List.{List, []}
 use native.Mathlib.Omega.{arith}
 use lib.Dec.{T, ltb, leb, ltb→lt}
 use lib.Ieee.{Float}
@@ -19,8 +19,8 @@ use Rattle.rules.specs.Tree.{Node, Tree, blankNode, nodeAt, entryAt, cap}
 use Rattle.rules.specs.Check.{known, listFits, leafLists}
 use Rattle.rules.specs.Slices.{lengthIn, nodeIn, blockAt, treeOf}
 use Rattle.arena.specs.Trees.{AnyFloats, AnyLinks, Links, node-at, count-nodes, count-entries}
-use Rattle.laws.specs.Counting.Count.{is, is-le}
-use Rattle.laws.specs.Counting.Sums.{over, occurs-over, occurs-cons, length-over, sumTo, sum-same}
+use Rattle.laws.specs.Counting.Count.{is}
+use Rattle.laws.specs.Counting.Sums.{over, occurs-over, length-over, sumTo, sum-same}
 use Rattle.laws.specs.Check.Accept.{every-at}
 use Rattle.laws.specs.Check.Passing.{leaf-lists}
 use Rattle.validate.specs.Loops.{placed}
@@ -34,6 +34,10 @@ Listed s n ls = AnyFloats s n ls (λ t. every (listFits s t) (t .nodes) ≡ true
 -- node i is no leaf
 abbrev pub Inner : Settings → Counters → List ℕ → ℕ → Type 0
 Inner s n ls i = AnyFloats s n ls (λ t. nodeAt t i .leaf ≡ false)
+
+-- node i is a leaf
+abbrev pub Leaf : Settings → Counters → List ℕ → ℕ → Type 0
+Leaf s n ls i = AnyFloats s n ls (λ t. nodeAt t i .leaf ≡ true)
 
 -- every entry weighs a count, and every node does
 abbrev pub EntriesCount : Settings → Counters → List Float → Type 0
@@ -85,6 +89,19 @@ inner-in s n fs ls i k h b q l e =
     let g = count-nodes s n fs ls in
     omega arith
 
+-- a number of a leaf's list is an entry's
+pub leaf-at : (s : Settings) (n : Counters) (fs : List Float) (ls : List ℕ) (i k : ℕ) {x : ℕ} → every (listFits s (treeOf s n fs ls))
+    (treeOf s n fs ls .nodes) ≡ true
+    → nodeAt (treeOf s n fs ls) i .leaf ≡ true → i < n .nodes → k < length (nodeAt (treeOf s n fs ls) i .list)
+    → x ≡ getD (nodeAt (treeOf s n fs ls) i .list) k 0 → x < n .entries
+unfolding known
+leaf-at s n fs ls i k h b q l e =
+    let t = treeOf s n fs ls in
+    let a = listed-in s t h i k (rw (count-nodes s n fs ls) q) l in
+    let f : known t (nodeAt t i .leaf) ≡ length (t .entries) = rw b in
+    let g = count-entries s n fs ls in
+    omega arith
+
 -- a list is no longer than its block's places
 pub list-few : (s : Settings) (n : Counters) (fs : List Float) (ls : List ℕ) (j i : ℕ) → Links s n j → i < n .nodes
     → length (nodeAt (treeOf s n fs ls) i .list) ≤ 17
@@ -133,8 +150,3 @@ module _ (s : Settings) (n : Counters) (fs : List Float) (ls : List ℕ) where
       go : (b : Bool) → length (nodeAt (treeOf s n fs ls) i .list) ≤ 17 → length (cond b (nodeAt (treeOf s n fs ls) i .list) []) ≤ 17
       go true q = q
       go false q = omega arith
-
-pub occurs-few : (c : ℕ) (l : List ℕ) → occurs c l ≤ length l
-unfolding occurs
-occurs-few c [] = omega arith
-occurs-few c (x ∷ l) = let a = occurs-cons c x l in let b = occurs-few c l in let d = is-le c x in omega arith

@@ -6,6 +6,8 @@ pub mod Meeting
 pub mod Reached
 pub mod Levels
 pub mod Linked
+pub mod Seen
+pub mod Once
 -- condition 6
 pub mod Evenly
 pub mod Widths

@@ -101,6 +101,15 @@ sum-more g i e h = rw (add-one i, e, h)
 pub sum-end : (g : ℕ → ℕ) (n i : ℕ) {a : ℕ} → a ≡ sumTo g i → i ≤ n → n ≤ i → a ≡ sumTo g n
 sum-end g n i e p q = let w : i ≡ n = omega arith in e ∙ ap (sumTo g) w
 
+pub sum-grows : (g : ℕ → ℕ) (n i : ℕ) → i ≤ n → sumTo g i ≤ sumTo g n
+unfolding sumTo
+sum-grows g zero i h = let e : i ≡ 0 = omega arith in subst (λ j. sumTo g j ≤ 0) (sym e) (omega arith)
+sum-grows g (suc n) i h = go (same? i (suc n)) (sum-grows g n i)
+  where
+    go : (i ≡ suc n) ⊎ (i ≢ suc n) → (i ≤ n → sumTo g i ≤ sumTo g n) → sumTo g i ≤ sumTo g n + g n
+    go (inl e) ih = subst (λ j. sumTo g j ≤ sumTo g n + g n) (sym e) (omega arith)
+    go (inr e) ih = let a = ih (omega arith) in omega arith
+
 -- one more where c is there, and no more where it is not
 pub count-more : (c : ℕ) (f : ℕ → ℕ) (i : ℕ) {a x : ℕ} → a ≡ sumTo (λ k. is c (f k)) i → x ≡ f i → x ≡ c → a + 1 ≡ sumTo (λ k. is c (f k)) (i + 1)
 count-more c f i e h q = sum-more (λ k. is c (f k)) i e (sym (is-same c (f i) (sym q ∙ h)))

@@ -17,7 +17,7 @@ use head::Counters;
 use head::Settings;
 
 // How often c stands in the list of node i.
-pub fn occurs(s: Settings, n: Counters, links: &[u32], i: usize, c: usize) -> usize
+fn occurs(s: Settings, n: Counters, links: &[u32], i: usize, c: usize) -> usize
     requires { ⌜ Links s n (length (now links)) × (i < n .nodes) ⌝ }
     ensures { λ r. ⌜ AnyFloats s n (now (links .entry)) (λ t. r ≡ occurs c (nodeAt t i .list)) ⌝ }
 {

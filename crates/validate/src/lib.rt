@@ -5,6 +5,7 @@ mod forking;
 mod listed;
 mod once;
 mod rooted;
+mod seen;
 
 ghost use mathlib.Core.Path.{_≡_};
 ghost use Prim.Native.Nat.{_≤_, _<_};
@@ -22,7 +23,7 @@ use rules::Verdict;
 
 // Condition 4: every node is reached from the root once, by the parent it names; every entry is in one leaf list, once.
 fn hung(s: Settings, n: Counters, links: &[u32]) -> bool
-    requires { ⌜ Links s n (length (now links)) × Listed s n (now links) × (n .root < n .nodes) ⌝ }
+    requires { ⌜ Links s n (length (now links)) × Listed s n (now links) × (n .entries ≤ 256) × (n .root < n .nodes) ⌝ }
     ensures { λ r. ⌜ AnyFloats s n (now (links .entry)) (λ t. r ≡ hung t) ⌝ }
 {
     if !crate::climbing::meeting(s, n, links) {

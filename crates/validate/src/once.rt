@@ -1,13 +1,16 @@
 // Condition 4, the entries: every entry is in one leaf list, once.
 ghost use mathlib.Core.Path.{_≡_};
-ghost use Prim.Native.Nat.{_<_};
-ghost use lib.Dec.{eqb};
+ghost use Prim.Native.Nat.{_+_, _≤_, _<_};
 ghost use lib.ListN.{length};
-ghost use Rattle.rules.specs.Lists.{every, upFrom, occurs};
+ghost use Rattle.rules.specs.Lists.{occurs};
 ghost use Rattle.rules.specs.Tree.{nodeAt};
 ghost use Rattle.rules.specs.Check.{leafLists, onceEach};
 ghost use Rattle.arena.specs.Trees.{AnyFloats, Links};
-ghost use Rattle.validate.specs.Lent.{leafList};
+ghost use Rattle.validate.specs.Lent.{Listed, Leaf, leafList};
+ghost use Rattle.validate.specs.Once.{noneTwice};
+ghost use Rattle.validate.specs.Seen.{Marked, times};
+use crate::seen::Marks;
+use crate::seen::Seen;
 use arena::links;
 use head::Counters;
 use head::Settings;
@@ -38,54 +41,61 @@ fn leaves_len(s: Settings, n: Counters, links: &[u32]) -> usize
     sum
 }
 
-// How often node i lists entry e.
-fn leaf_occurs(s: Settings, n: Counters, links: &[u32], i: usize, e: usize) -> usize
-    requires { ⌜ Links s n (length (now links)) × (i < n .nodes) ⌝ }
-    ensures { λ r. ⌜ AnyFloats s n (now (links .entry)) (λ t. r ≡ occurs e (leafList (nodeAt t i))) ⌝ }
+// The set with the list of leaf i in it, or that a number is there twice.
+fn list_marks(s: Settings, n: Counters, links: &[u32], i: usize, seen: Seen) -> Marks
+    requires { ⌜ Links s n (length (now links)) × Listed s n (now links) × (n .entries ≤ 256) × (i < n .nodes) × Leaf s n (now links) i ⌝ }
+    ensures { λ r. ⌜ AnyFloats s n (now (links .entry)) (λ t. Marked r (λ c. times seen c + occurs c (nodeAt t i .list))) ⌝ }
+{
+    let len = links::list_len(s, n, links, i);
+    let mut set = seen;
+    let mut k = 0;
+    while k < len {
+        let e = links::list_at(s, n, links, i, k);
+        if crate::seen::has(set, e) {
+            return Marks::Twice;
+        }
+        set = crate::seen::add(set, e);
+        k += 1;
+    }
+    Marks::Apart(set)
+}
+
+// The set with the entries that node i lists in it, or that one is there twice.
+fn leaf_marks(s: Settings, n: Counters, links: &[u32], i: usize, seen: Seen) -> Marks
+    requires { ⌜ Links s n (length (now links)) × Listed s n (now links) × (n .entries ≤ 256) × (i < n .nodes) ⌝ }
+    ensures { λ r. ⌜ AnyFloats s n (now (links .entry)) (λ t. Marked r (λ c. times seen c + occurs c (leafList (nodeAt t i)))) ⌝ }
 {
     if links::is_leaf(s, n, links, i) {
-        crate::climbing::occurs(s, n, links, i, e)
+        list_marks(s, n, links, i, seen)
     } else {
-        0
+        Marks::Apart(seen)
     }
 }
 
-// How often entry e stands in the leaf lists.
-fn leaves_occur(s: Settings, n: Counters, links: &[u32], e: usize) -> usize
-    requires { ⌜ Links s n (length (now links)) ⌝ }
-    ensures { λ r. ⌜ AnyFloats s n (now (links .entry)) (λ t. r ≡ occurs e (leafLists (t .nodes))) ⌝ }
+// Whether no entry stands twice in the leaf lists.
+fn none_twice(s: Settings, n: Counters, links: &[u32]) -> bool
+    requires { ⌜ Links s n (length (now links)) × Listed s n (now links) × (n .entries ≤ 256) ⌝ }
+    ensures { λ r. ⌜ AnyFloats s n (now (links .entry)) (λ t. r ≡ noneTwice (n .entries) (leafLists (t .nodes))) ⌝ }
 {
-    let mut times = 0;
+    let mut seen = crate::seen::none();
     let mut i = 0;
     while i < n.nodes {
-        times += leaf_occurs(s, n, links, i, e);
-        i += 1;
-    }
-    times
-}
-
-// Whether each entry stands once in the leaf lists.
-fn once(s: Settings, n: Counters, links: &[u32]) -> bool
-    requires { ⌜ Links s n (length (now links)) ⌝ }
-    ensures { λ r. ⌜ AnyFloats s n (now (links .entry)) (λ t. r ≡ every (λ e. eqb (occurs e (leafLists (t .nodes))) 1) (upFrom (n .entries) 0)) ⌝ }
-{
-    let mut e = 0;
-    while e < n.entries {
-        if leaves_occur(s, n, links, e) != 1 {
+        let Marks::Apart(more) = leaf_marks(s, n, links, i, seen) else {
             return false;
-        }
-        e += 1;
+        };
+        seen = more;
+        i += 1;
     }
     true
 }
 
 // Whether each entry stands once in the leaf lists, and no other number.
 pub fn once_each(s: Settings, n: Counters, links: &[u32]) -> bool
-    requires { ⌜ Links s n (length (now links)) ⌝ }
+    requires { ⌜ Links s n (length (now links)) × Listed s n (now links) × (n .entries ≤ 256) ⌝ }
     ensures { λ r. ⌜ AnyFloats s n (now (links .entry)) (λ t. r ≡ onceEach (length (t .entries)) (leafLists (t .nodes))) ⌝ }
 {
     if leaves_len(s, n, links) != n.entries {
         return false;
     }
-    once(s, n, links)
+    none_twice(s, n, links)
 }

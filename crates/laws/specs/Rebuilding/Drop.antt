@@ -38,7 +38,7 @@ flag-le bs c = go (flag? bs c)
 
 -- ---- dropping lengthens no list
 
-node-is : (bs : List Bool) (u : Tree) (k : ℕ) → nodeAt (dropped bs u) k ≡ pruned bs (nodeAt u k)
+pub node-is : (bs : List Bool) (u : Tree) (k : ℕ) → nodeAt (dropped bs u) k ≡ pruned bs (nodeAt u k)
 unfolding dropped withEntries withNodes nodeAt pruned listing keepNumbers filterMap blankNode
 node-is bs u k = List·getD-map (pruned bs) (u .nodes) k blankNode
 

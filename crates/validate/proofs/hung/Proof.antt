@@ -5,7 +5,9 @@ use Rattle.validate.proofs.hung.Statement.{statement}
 use Rattle.validate.proofs.hung.Tie as tie
 
 meeting-requires : tie.Need-meeting-requires
-meeting-requires c κs = c .before .pre
+meeting-requires c κs =
+    let start = c .before in
+    (start .pre .0, start .pre .1, start .pre .3)
 
 returns : tie.Need-returns
 unfolding hung
@@ -14,7 +16,7 @@ returns c = λ fs. rw (← c .before .meeting .ensures fs, not-true (c .before .
 once-each-requires : tie.Need-once-each-requires
 once-each-requires c κs =
     let start = c .before .before .before in
-    start .pre .0
+    (start .pre .0, start .pre .1, start .pre .2)
 
 returns-2 : tie.Need-returns-2
 unfolding hung

@@ -7,11 +7,11 @@ use Rattle.rules.specs.Slices.{treeOf}
 use Rattle.rules.specs.Tree.{Tree}
 use Rattle.rules.specs.Check.{unsettled, lowest, checked}
 use Rattle.arena.specs.Trees.{Floats, Links}
-use Prim.Native.Nat.{ℕ, suc, _<_}
+use Prim.Native.Nat.{ℕ, suc, _≤_, _<_}
 use mathlib.Core.List.{[]}
 use Rattle.validate.specs.Examined.{conditions, examined, checked-is, fails, holds}
 use Rattle.validate.specs.Lent.{Listed}
-use Rattle.validate.specs.Granted.{sized-links, sized-floats, rooted-in, lent-binary64}
+use Rattle.validate.specs.Granted.{sized-links, sized-floats, sized-few, rooted-in, lent-binary64}
 use Rattle.validate.proofs.validate.Statement.{statement}
 use Rattle.validate.proofs.validate.Tie as tie
 
@@ -96,6 +96,12 @@ floats c =
     sized-floats (start .args .s) (start .args .n) (start .args .floats .now) (start .args .links .now) (start .pre .0) (start .pre .1)
     (sym (c .before .sized .ensures (start .args .floats .now) (start .args .links .now)) ∙ not-false _ (c .if1 .left))
 
+few : (c : tie.Else1) → start-1 c .args .n .entries ≤ 256
+few c =
+    let start = start-1 c in
+    sized-few (start .args .s) (start .args .n) (start .args .floats .now) (start .args .links .now) (start .pre .0)
+    (sym (c .before .sized .ensures (start .args .floats .now) (start .args .links .now)) ∙ not-false _ (c .if1 .left))
+
 root-in : (c : tie.Else2) → start-2 c .args .n .root < start-2 c .args .n .nodes
 root-in c =
     let start = start-2 c in
@@ -127,7 +133,7 @@ returns-3 c = fails 3 _ _ (met-2 (c .before .before)) (sym (c .before .lists-fit
     (c .if3 .taken))
 
 hung-requires : tie.Need-hung-requires
-hung-requires c κs = (links (c .before .before .before .before), listed c, root-in (c .before .before))
+hung-requires c κs = (links (c .before .before .before .before), listed c, few (c .before .before .before .before), root-in (c .before .before))
 
 returns-4 : tie.Need-returns-4
 unfolding conditions

@@ -1,0 +1,3 @@
+-- Rows into a tree between calls.
+pub mod Resting
+pub mod Batch

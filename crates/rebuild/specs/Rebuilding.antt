@@ -1,0 +1,170 @@
+-- What a rebuild asks of the tree and of scratch, and what its parts then have.
+use Prim.Native.Nat.{ℕ, zero, suc, _+_, _-_, _*_, _≤_, _<_}
+use mathlib.Core.Path.{_≡_, refl, sym, ap, ap₂, _∙_, subst}
+use mathlib.Core.Bool.{Bool, true, false, cond, _||_}
+use mathlib.Core.List.{List, [], _∷_, map}
+use mathlib.Core.Option.{none}
+use native.Mathlib.Nat.{mul-le-mul-left, mul-one}
+use native.Mathlib.Omega.{arith}
+use lib.Dec.{leb, eqb}
+use lib.ListN.{length}
+use lib.Ieee.{Float}
+use Rattle.head.specs.declared.Settings.{Settings}
+use Rattle.head.specs.declared.Counters.{Counters}
+use Rattle.head.specs.Limits.{Sized}
+use Rattle.head.specs.Sizes.{entryCap, slotWidth}
+use Rattle.head.specs.Counting.{thresholdAt, countMerged}
+use Rattle.rules.specs.declared.Pair.{Pair}
+use Rattle.rules.specs.Lists.{countUp}
+use Rattle.rules.specs.Tree.{Tree, nodeAt, withNodes, withEntries, withMerged, listing}
+use Rattle.rules.specs.Slices.{treeOf}
+use Rattle.rules.specs.Pairs.{siblings, cousins, sorted}
+use Rattle.rules.specs.Reinsert.{reinserted}
+use Rattle.rules.specs.Refold.{refolded}
+use Rattle.rules.specs.Rebuild.{Merging, dropped, mergedBy, mergedWith, counted, rebuilt}
+use Rattle.laws.specs.Counting.Sums.{sumTo, sum-same}
+use Rattle.laws.specs.Invariant.Sound.{Settled, caps-of}
+use Rattle.laws.specs.Inserting.Grown.{Whole}
+use Rattle.laws.specs.Rebuilding.Merge.{Every, Merged}
+use Rattle.laws.specs.Rebuilding.Pairs.{NearPair, siblings-all, every-map}
+use Rattle.laws.specs.Rebuilding.Cousins.{FarPair, cousins-far}
+use Rattle.laws.specs.Rebuilding.Drop.{node-is, dropped-nodes}
+use Rattle.laws.specs.Rebuilding.Rebuilt.{mergeStart, mergesOf, merges-merged, near-far, mergedWith-fewer, frame-w, rows-w, counted-w, length-w, pos-w}
+use Rattle.laws.specs.ForCode.{Framed, Standing, leafCount, settled-framed, settled-standing}
+use Rattle.scratch.specs.Stored.{Room, pairsIn, length-pairs}
+use Rattle.scratch.specs.Flags.{aliveIn}
+use Rattle.merging.specs.Pruning.{LeavesIn, leaves-framed, leaves-same}
+use Rattle.merging.specs.declared.merges.Merges.{Merges}
+use Rattle.refold.specs.Refolding.{Filled}
+use Rattle.reinsert.specs.Whole.{Reinsertable}
+use Rattle.reinsert.specs.Thinned.{thinned, merged-reinsertable}
+use Rattle.rebuild.specs.Counted.{mergedCounts, countedUp, counted-is}
+use Rattle.rebuild.specs.Merges.{AllMerged, allMerges, ended, merges-made}
+
+-- ---- what is asked
+
+-- a summary and three numbers for each entry
+pub record Scratch (s : Settings) (floats numbers : ℕ) : Type 0 where
+  pub floats-in : entryCap s * slotWidth s ≤ floats
+  pub numbers-in : 3 * entryCap s ≤ numbers
+
+-- the tree without the merged-away entries can be placed again
+pub record Compactable (s : Settings) (n : Counters) (alive : List Bool) (t : Tree) : Type 0 where
+  pub leaves : LeavesIn n t
+  pub again : Reinsertable s (withMerged 0 (dropped alive t))
+
+-- a tree that holds so many rows, one entry over M
+pub record Rebuildable (s : Settings) (t : Tree) : Type 0 where
+  pub rows : ℕ
+  pub whole : Whole s t rows
+  pub more : s .«max_leaves» < length (t .entries)
+  pub few : length (t .entries) ≤ entryCap s
+  pub unsettled : t .merged < s .«max_leaves»
+
+-- so many pairs of its entries
+pub record Mergeable (s : Settings) (pairs : ℕ) (ps : List Pair) (t : Tree) : Type 0 where
+  pub tree : Rebuildable s t
+  pub pairs-few : pairs ≤ entryCap s
+  pub far : Every (FarPair (length (t .entries))) ps
+
+-- ---- scratch
+
+module _ (s : Settings) {a b : ℕ} (r : Scratch s a b) where
+  pub pairs-room : Room (entryCap s) a b
+  unfolding slotWidth
+  pairs-room =
+      let w = mul-le-mul-left (entryCap s) (let o : 1 ≤ 1 + 2 * s .dim = omega arith in o) in
+      let i = mul-one (entryCap s) in
+      record { floats-in = omega (arith, r .floats-in); numbers-in = r .numbers-in }
+
+  pub some-room : (k : ℕ) → k ≤ entryCap s → Room k a b
+  some-room k h = let q = pairs-room in record { floats-in = omega (arith, q .floats-in); numbers-in = omega (arith, q .numbers-in) }
+
+-- ---- the tree, and its pairs
+
+module _ (s : Settings) (t : Tree) (w : Rebuildable s t) where
+  abbrev settled : Settled s t (w .whole .0) (w .rows)
+  settled = w .whole .1
+
+  pub tree-framed : Framed t
+  tree-framed = settled-framed s t (w .whole .0) (w .rows) (w .whole .1)
+
+  pub siblings-far : Every (FarPair (length (t .entries))) (siblings s t (t .nodes))
+  siblings-far = every-map (NearPair s t) (FarPair (length (t .entries))) (siblings s t (t .nodes)) (near-far settled (w .whole .2)) (siblings-all s t)
+
+  pub cousins-all : Every (FarPair (length (t .entries))) (cousins s t (t .nodes))
+  cousins-all = cousins-far t (settled .links) (t .nodes)
+
+  -- ---- after the merges of the pairs ps
+
+  module _ (ps : List Pair) (far : Every (FarPair (length (t .entries))) ps) where
+    abbrev pub merges : Merging
+    merges = mergesOf settled (w .whole .2) ps
+
+    done : Merged s (length (t .entries)) (w .rows) merges
+    done = merges-merged settled (w .whole .2) ps far
+
+    some : 0 < length (t .entries)
+    some = let q = w .more in omega arith
+
+    pub merges-few : merges .count ≤ length (t .entries)
+    merges-few = let q = done .counted in omega arith
+
+    -- the tree without those merged away can be placed again
+    pub left-again : Reinsertable s (thinned s t merges)
+    left-again = merged-reinsertable s t merges settled (w .whole .2) done some (w .few)
+
+  -- ---- when all merges are done
+
+  pub merged-standing : Sized s → Standing s (mergedWith s (siblings s t (t .nodes)) t) × Filled (mergedWith s (siblings s t (t .nodes)) t)
+  unfolding Filled
+  merged-standing z =
+      let f = mergedWith-fewer settled (w .whole .2) (caps-of z) (z .most-some) (w .more) in
+      let r = f .0 in
+      let few = w .few in
+      let fewer = f .1 in
+      (settled-standing s (mergedWith s (siblings s t (t .nodes)) t) (r .0) (w .rows) (r .1) (omega arith), λ i l. r .1 .links .filled i l)
+
+  -- refolded and counted
+  pub rebuilt-is : (m d : Counters) (fs : List Float) (ls : List ℕ) → d ≡ countedUp m
+      → treeOf s m fs ls ≡ refolded s (mergedWith s (siblings s t (t .nodes)) t) → treeOf s d fs ls ≡ rebuilt s t
+  unfolding rebuilt
+  rebuilt-is m d fs ls e q = ap (λ r. treeOf s r fs ls) e ∙ counted-is s fs ls m ∙ ap counted q
+
+-- ---- pairs of siblings, or of cousins
+
+module _ (s : Settings) (t : Tree) (cs : List Float) (ns : List ℕ) where
+  pub by-siblings : (k : ℕ) (ps : List Pair) → pairsIn cs ns k ≡ ps → 0 < k → mergedBy s false (pairsIn cs ns k) t ≡ mergedWith s ps t
+  unfolding mergedWith
+  by-siblings k [] e h = let none = sym (length-pairs cs ns k) ∙ ap length e in absurd (omega arith)
+  by-siblings k (p ∷ ps) e h = ap (λ ps. mergedBy s false ps t) e
+
+  pub by-cousins : (k : ℕ) (ps : List Pair) → pairsIn cs ns k ≡ ps → k ≤ 0
+      → (qs : List Pair) → qs ≡ cousins s t (t .nodes) → mergedBy s true qs t ≡ mergedWith s ps t
+  unfolding mergedWith
+  by-cousins k [] e h qs q = ap (λ ps. mergedBy s true ps t) q
+  by-cousins k (p ∷ ps) e h qs q = let some = sym (length-pairs cs ns k) ∙ ap length e in absurd (omega arith)
+
+-- ---- the tree after its merges
+
+module _ (s : Settings) (n : Counters) (pairs : ℕ) (ps : List Pair) (r : Merges) (fs gs : List Float) (ms ls : List ℕ)
+    (w : Mergeable s pairs ps (treeOf s n fs ls)) (h : AllMerged s n ps r fs gs ms) where
+  pub total-few : Sized s → n .merged + r .count ≤ 4294967296
+  unfolding allMerges treeOf entryCap
+  total-few z =
+      let count = ended s n ps r fs gs ms ls h .count in
+      let most = merges-few s (treeOf s n fs ls) (w .tree) ps (w .far) in
+      let few = w .tree .few in
+      let merged = w .tree .unsettled in
+      let limit = z .most-few in
+      omega arith
+
+  pub merges-compactable : (d : Counters) → d ≡ mergedCounts r n → Compactable s d (aliveIn ms (d .entries)) (treeOf s d gs ls)
+  unfolding mergedCounts countMerged thresholdAt allMerges
+  merges-compactable d e = rw e record {
+    leaves = leaves-same s n (mergedCounts r n) fs gs ls refl refl (leaves-framed s n fs ls (tree-framed s (treeOf s n fs ls) (w .tree)));
+    again =
+        subst (Reinsertable s)
+        (ap₂ (λ bs u. withMerged 0 (dropped bs u)) (sym (ended s n ps r fs gs ms ls h .alive)) (sym (merges-made s n ps r fs gs ms ls h)))
+        (left-again s (treeOf s n fs ls) (w .tree) ps (w .far));
+  }

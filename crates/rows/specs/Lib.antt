@@ -1,0 +1,2 @@
+-- Rows in a slice.
+pub mod Rows

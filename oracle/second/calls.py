@@ -132,8 +132,7 @@ class Library:
     def begin(self, call, numbers=None, one_row=False):
         """Refusals 1 to 4, and the rows."""
         dim = self.tree.settings.dim
-        count = len(numbers or []) // max(dim, 1)
-        for name, need in lent.scratch(self.tree.settings, call, count).items():
+        for name, need in lent.scratch(self.tree.settings, call).items():
             self.lend_afresh(name, need)
         if numbers is not None and wrong("shape_before_settings") and dim:
             self.check_shape(numbers, one_row)
@@ -160,10 +159,10 @@ class Library:
                 words = self.buffers[name].words
                 words[:] = [0] * len(words)
 
-    def changed(self, call, rows):
+    def changed(self, call):
         self.tree.count()
         if self.tracked:
-            need = {**self.need(), **lent.scratch(self.tree.settings, call, rows)}
+            need = {**self.need(), **lent.scratch(self.tree.settings, call)}
             lent.clear(self.tree, self.buffers, need)
 
     # the calls
@@ -204,7 +203,7 @@ class Library:
             self.tree.rebuilds = min(self.tree.rebuilds, count + 1)
         if wrong("zero_rows_rebuild") and not rows and self.tree.entries:
             refold(self.tree)
-        self.changed("insert", len(rows))
+        self.changed("insert")
 
     def refit(self, numbers):
         rows = self.begin("refit", numbers)
@@ -212,7 +211,7 @@ class Library:
             raise Refused(FULL)
         self.cut()
         refit(self.tree, rows)
-        self.changed("refit", len(rows))
+        self.changed("refit")
 
     def route(self, numbers):
         self.lend_afresh("output", len(numbers) // max(self.tree.settings.dim, 1))

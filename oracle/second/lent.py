@@ -30,14 +30,14 @@ def needed(h):
     }
 
 
-def scratch(h, call, rows):
+def scratch(h, call):
     """Scratch that a call needs, by the published formulas: a summary and three numbers for each of the
-    M + 1 entries, and a number a row for refit."""
+    M + 1 entries."""
     if call not in ("insert", "refit"):
         return {name: 0 for name in SCRATCH}
     return {
         "scratch_floats": (h.most + 1) * (1 + 2 * h.dim),
-        "scratch_links": 3 * (h.most + 1) + (rows if call == "refit" else 0),
+        "scratch_links": 3 * (h.most + 1),
     }
 
 

@@ -6,6 +6,7 @@ pub mod Blocks
 pub mod Tables
 pub mod Numbered
 pub mod Trees
+pub mod Cut
 pub mod Writes
 pub mod Changes
 pub mod Pieces

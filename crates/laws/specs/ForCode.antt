@@ -16,7 +16,7 @@ use Rattle.rules.specs.Lists.{occurs}
 use Rattle.rules.specs.Tree.{Tree, nodeAt, cap, summed, withNodes}
 use Rattle.laws.specs.Counting.Sums.{over, length-over, sumTo, sum-at, sum-ones, sum-le}
 use Rattle.laws.specs.Counting.Count.{below-lt}
-use Rattle.laws.specs.Invariant.Links.{held, held-yes, kid-in, parent-lists, nil}
+use Rattle.laws.specs.Invariant.Links.{Links, held, held-yes, kid-in, parent-lists, nil}
 use Rattle.laws.specs.Invariant.Sound.{Settled, Looking}
 use Rattle.laws.specs.Inserting.Descent.{leaf-found}
 use Rattle.laws.specs.Invariant.Height.{height}
@@ -85,8 +85,11 @@ pub record Framed (t : Tree) : Type 0 where
   pub R : ℕ → ℕ
   pub frame : Frame (nodeAt t) (length (t .nodes)) (t .root) (length (t .entries)) R
 
+linked-framed : (s : Settings) (t : Tree) (R : ℕ → ℕ) → Links s (nodeAt t) (length (t .nodes)) (t .root) (length (t .entries)) R nil nil nil → Framed t
+linked-framed s t R g = record { R = R; frame = frame-of s (nodeAt t) (length (t .nodes)) (t .root) (length (t .entries)) R nil nil g }
+
 pub settled-framed : (s : Settings) (t : Tree) (R : ℕ → ℕ) (total : ℕ) → Settled s t R total → Framed t
-settled-framed s t R total g = record { R = R; frame = frame-of s (nodeAt t) (length (t .nodes)) (t .root) (length (t .entries)) R nil nil (g .links) }
+settled-framed s t R total g = linked-framed s t R (g .links)
 
 -- how many leaves there are
 unfoldable pub leafCount : Tree → ℕ
@@ -100,15 +103,16 @@ pub record Standing (s : Settings) (t : Tree) : Type 0 where
   pub leaves-few : leafCount t ≤ entryCap s
   pub entries-few : length (t .entries) ≤ entryCap s
 
--- each leaf of a settled tree has an entry of its own
-pub settled-standing : (s : Settings) (t : Tree) (R : ℕ → ℕ) (total : ℕ) → Settled s t R total → length (t .entries) ≤ entryCap s → Standing s t
+-- each leaf of a tree with right links has an entry of its own
+pub linked-standing : (s : Settings) (t : Tree) (R : ℕ → ℕ) → Links s (nodeAt t) (length (t .nodes)) (t .root) (length (t .entries)) R nil nil nil
+    → length (t .entries) ≤ entryCap s → Standing s t
 unfolding leafCount
-settled-standing s t R total g few = record {
-  framed = settled-framed s t R total g;
-  root-top = g .links .root-top;
-  inners = (λ i l f. g .links .filled i l);
+linked-standing s t R g few = record {
+  framed = linked-framed s t R g;
+  root-top = g .root-top;
+  inners = (λ i l f. g .filled i l);
   leaves-few =
-      (let a = leaves-sum (settled-framed s t R total g .frame) (λ _. 1) in
+      (let a = leaves-sum (linked-framed s t R g .frame) (λ _. 1) in
       let b = sum-ones (length (t .entries)) in
       let c = sum-le (λ k. cond (nodeAt t k .leaf) 1 0) (λ k. cond (nodeAt t k .leaf) (over (λ _. 1) (nodeAt t k .list)) 0) (length (t .nodes))
       (λ k l. one k l (nodeAt t k .leaf)) in
@@ -117,8 +121,11 @@ settled-standing s t R total g few = record {
 }
   where
     one : (k : ℕ) → k < length (t .nodes) → (b : Bool) → cond b 1 0 ≤ cond b (over (λ _. 1) (nodeAt t k .list)) 0
-    one k l true = let a = length-over (nodeAt t k .list) in let b = g .links .filled k l in omega arith
+    one k l true = let a = length-over (nodeAt t k .list) in let b = g .filled k l in omega arith
     one k l false = omega arith
+
+pub settled-standing : (s : Settings) (t : Tree) (R : ℕ → ℕ) (total : ℕ) → Settled s t R total → length (t .entries) ≤ entryCap s → Standing s t
+settled-standing s t R total g few = linked-standing s t R (g .links) few
 
 -- the leaf that a descent finds is one
 abbrev AtLeaf : Settings → (Summary → Float) → Tree → Type 0

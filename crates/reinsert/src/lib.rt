@@ -23,7 +23,7 @@ use head::Counters;
 use head::Settings;
 
 // An empty tree with the counters kept.
-fn clear(s: Settings, n: Counters, floats: &mut [f64], links: &mut [u32]) -> Counters
+pub fn clear(s: Settings, n: Counters, floats: &mut [f64], links: &mut [u32]) -> Counters
     requires { ⌜ Floats s n (length (now floats)) × Links s n (length (now links)) ⌝ }
     ensures { λ r. ⌜ r ≡ clearedCounts n ⌝ }
     ensures { λ r. ⌜ treeOf s r (now (floats .exit)) (now (links .exit)) ≡ cleared (treeOf s n (now (floats .entry)) (now (links .entry))) ⌝ }

@@ -1,11 +1,11 @@
--- What the outcomes say: the first refusal that applies is given, a refused call changes nothing, and zero rows alter nothing but the zeroing.
+-- What the outcomes say: a refused call changes nothing, settings, room and tree are refused before any row, and zero rows alter nothing but the zeroing.
 use Prim.Native.Nat.{ℕ, suc, _+_, _/_, _≤_}
-use mathlib.Core.Path.{_≡_, refl, ap}
-use mathlib.Core.Bool.{Bool, true, false, cond, _&&_}
+use mathlib.Core.Path.{_≡_, refl, sym, ap}
+use mathlib.Core.Bool.{Bool, true, false, _&&_}
 use mathlib.Core.List.{List, [], _∷_, _++_}
 use native.Mathlib.Nat.{zero-div, zero-mod}
 use native.Mathlib.Omega.{arith}
-use lib.ListN.{length}
+use lib.ListN.{length, drop}
 use lib.Dec.{leb}
 use lib.Ieee.{Float}
 use borrow.Author.Tests.{leb-true, le-leb}
@@ -26,17 +26,11 @@ use Rattle.rules.specs.Tree.{Tree}
 use Rattle.rules.specs.Rebuild.{insertedAll}
 use Rattle.rules.specs.Check.{lowest, sized, rooted, listFits, linked, filled, level, weighed, checked, totalOf}
 use Rattle.rules.specs.Slices.{treeOf, countersOf}
-use Rattle.rules.specs.Calls.{unless, answerOf, settingsRefusal, roomRefusal, treeRefusal, batchShapeRefusal, insertFullRefusal, Lent, Left, lentTree, changeRefusals, changed, settle, batchRefusals, batchInserted}
-use Rattle.rules.specs.declared.Verdict.{Verdict}
-use Rattle.rules.specs.declared.Verdict.the-variants.{Passes, Fails}
+use Rattle.rules.specs.Calls.{unless, answerOf, settingsRefusal, roomRefusal, batchShapeRefusal, insertFullRefusal, Lent, Left, lentTree, changeRefusals, changed, settle, batchRefusals, rowInserted, batchInserted, batchRefitted, fronted}
+use Rattle.rules.specs.RefusalLaws.{none-both, unless-none, tree-none, room-none}
+use Rattle.rules.specs.declared.Verdict.the-variants.{Passes}
 
--- ---- the first that applies
-
--- a test that fails is answered before the later ones, and one that passes leaves the answer to them
-pub first-given : (b : Bool) (r : Refusal) (rs : List Refusal) → answerOf (unless b r ++ rs) ≡ cond b (answerOf rs) (Refused r)
-unfolding answerOf unless
-first-given true r rs = refl
-first-given false r rs = refl
+-- ---- a refused call
 
 module _ (h : Head) (l : Lent) (done : Left) where
   pub settle-answer : (rs : List Refusal) → done .answer ≡ Accepted → settle rs h l done .answer ≡ answerOf rs
@@ -52,42 +46,24 @@ module _ (h : Head) (l : Lent) (done : Left) where
 
 -- ---- what passing every test says
 
-pub none-both : {A : Type 0} (xs ys : List A) → xs ++ ys ≡ [] → (xs ≡ []) × (ys ≡ [])
-none-both [] ys e = (refl, e)
-none-both (x ∷ xs) ys e = let z : _≡_ {A = ℕ} 0 1 = cc in absurd (omega arith)
-
-pub unless-none : (b : Bool) (r : Refusal) → unless b r ≡ [] → b ≡ true
-unfolding unless
-unless-none true r e = refl
-unless-none false r e = let z : _≡_ {A = ℕ} 0 1 = cc in absurd (omega arith)
-
-pub tree-none : (v : Verdict) → treeRefusal v ≡ [] → v ≡ Passes
-unfolding treeRefusal
-tree-none Passes e = refl
-tree-none (Fails n) e = let z : _≡_ {A = ℕ} 0 1 = cc in absurd (omega arith)
-
 -- a changing call that 1, 2 and 3 let through
-pub record Ready (h : Head) (l : Lent) (more : ℕ) : Type 0 where
+pub record Ready (h : Head) (l : Lent) : Type 0 where
   pub allows : allowed h ≡ true
   pub floats-room : floatsNeeded (settingsOf h) ≤ length (l .floats)
   pub links-room : linksNeeded (settingsOf h) ≤ length (l .links)
   pub scratch-floats-room : scratchFloatsNeeded (settingsOf h) ≤ length (l .scratchFloats)
-  pub scratch-links-room : scratchLinksNeeded (settingsOf h) + more ≤ length (l .scratchLinks)
+  pub scratch-links-room : scratchLinksNeeded (settingsOf h) ≤ length (l .scratchLinks)
   pub passes : checked (settingsOf h) (lentTree h (l .floats) (l .links)) ≡ Passes
 
-room-none : (needed n : ℕ) → roomRefusal needed n ≡ [] → needed ≤ n
-unfolding roomRefusal
-room-none needed n e = leb-true needed n (unless-none (leb needed n) R.Room e)
-
-pub change-ready : (h : Head) (l : Lent) (more : ℕ) → changeRefusals h l more ≡ [] → Ready h l more
+pub change-ready : (h : Head) (l : Lent) → changeRefusals h l ≡ [] → Ready h l
 unfolding changeRefusals settingsRefusal
-change-ready h l more e =
+change-ready h l e =
     let s = settingsOf h in
     let (a, e₁) = none-both (settingsRefusal h) _ e in
     let (b, e₂) = none-both (roomRefusal (floatsNeeded s) (length (l .floats))) _ e₁ in
     let (c, e₃) = none-both (roomRefusal (linksNeeded s) (length (l .links))) _ e₂ in
     let (d, e₄) = none-both (roomRefusal (scratchFloatsNeeded s) (length (l .scratchFloats))) _ e₃ in
-    let (f, g) = none-both (roomRefusal (scratchLinksNeeded s + more) (length (l .scratchLinks))) _ e₄ in
+    let (f, g) = none-both (roomRefusal (scratchLinksNeeded s) (length (l .scratchLinks))) _ e₄ in
     record {
       allows = unless-none (allowed h) R.Settings a;
       floats-room = room-none _ _ b;
@@ -129,19 +105,39 @@ module _ (h : Head) (l : Lent) where
   none-wrong total = rw (zero-mod (settingsOf h .dim), zero-div (settingsOf h .dim), le-leb (totalOf (tree .entries) + 0) most (omega arith))
 
   -- a batch of no rows is refused by 1, 2 or 3 alone, and leaves the tree that was lent
-  pub zero-rows : batchInserted h l [] ≡ settle (changeRefusals h l 0) h l (changed h l 0 tree)
+  pub zero-rows : batchInserted h l [] ≡ settle (changeRefusals h l) h l (changed h l tree)
   unfolding batchInserted
-  zero-rows = go (changeRefusals h l 0) refl
+  zero-rows = go (changeRefusals h l) refl
     where
-      go : (rs : List Refusal) → changeRefusals h l 0 ≡ rs
-          → settle (rs ++ batchRefusals (settingsOf h) tree []) h l (changed h l 0 (insertedAll (settingsOf h) (rowsOf (0 / settingsOf h .dim) (settingsOf h .dim) []) tree))
-          ≡ settle rs h l (changed h l 0 tree)
+      go : (rs : List Refusal) → changeRefusals h l ≡ rs
+          → settle (rs ++ batchRefusals (settingsOf h) tree []) h l (changed h l (insertedAll (settingsOf h) (rowsOf (0 / settingsOf h .dim) (settingsOf h .dim) []) tree))
+          ≡ settle rs h l (changed h l tree)
       go [] e =
-          let total = passes-total (settingsOf h) tree (change-ready h l 0 e .passes) in
-          rw (none-wrong total) (ap (λ u. settle [] h l (changed h l 0 u)) (rw (zero-div (settingsOf h .dim)) (unfold rowsOf insertedAll in refl)))
+          let total = passes-total (settingsOf h) tree (change-ready h l e .passes) in
+          rw (none-wrong total) (ap (λ u. settle [] h l (changed h l u)) (rw (zero-div (settingsOf h .dim)) (unfold rowsOf insertedAll in refl)))
       go (r ∷ rs) e = unfold settle in refl
+
+-- ---- settings, room and tree before any row
+
+module _ (h : Head) (l : Lent) (r : Refusal) (rs : List Refusal) (e : changeRefusals h l ≡ r ∷ rs) where
+  pub row-after-tree : (x : List Float) → rowInserted h l x .answer ≡ Refused r
+  unfolding rowInserted settle
+  row-after-tree x = rw e
+
+  pub batch-after-tree : (xs : List Float) → batchInserted h l xs .answer ≡ Refused r
+  unfolding batchInserted settle
+  batch-after-tree xs = rw e
+
+  pub refit-after-tree : (xs : List Float) → batchRefitted h l xs .answer ≡ Refused r
+  unfolding batchRefitted settle
+  refit-after-tree xs = rw e
 
 -- with its own counters a head is itself
 pub head-again : (h : Head) (fs : List Float) (ls : List ℕ) → withCounters h (countersOf (lentTree h fs ls)) ≡ h
 unfolding withCounters countersOf lentTree treeOf
 head-again h fs ls = simp length-table
+
+-- a list in front of what lies behind it
+pub put-front : {A : Type 0} (new old : List A) (k : ℕ) → length new ≡ k → new ++ drop k old ≡ fronted new old
+unfolding fronted
+put-front new old k e = ap (λ j. new ++ drop j old) (sym e)

@@ -95,15 +95,15 @@ treeRefusals h fs ls =
     let s = settingsOf h in
     settingsRefusal h ++ (roomRefusal (floatsNeeded s) (length fs) ++ (roomRefusal (linksNeeded s) (length ls) ++ treeRefusal (checked s (lentTree h fs ls))))
 
--- the same with scratch: so many numbers of links besides the settings' own
-unfoldable pub changeRefusals : Head → Lent → ℕ → List Refusal
-changeRefusals h l more =
+-- the same with scratch
+unfoldable pub changeRefusals : Head → Lent → List Refusal
+changeRefusals h l =
     let s = settingsOf h in
     settingsRefusal h
     ++ (roomRefusal (floatsNeeded s) (length (l .floats))
     ++ (roomRefusal (linksNeeded s) (length (l .links))
     ++ (roomRefusal (scratchFloatsNeeded s) (length (l .scratchFloats))
-    ++ (roomRefusal (scratchLinksNeeded s + more) (length (l .scratchLinks)) ++ treeRefusal (checked s (lentTree h (l .floats) (l .links)))))))
+    ++ (roomRefusal (scratchLinksNeeded s) (length (l .scratchLinks)) ++ treeRefusal (checked s (lentTree h (l .floats) (l .links)))))))
 
 module _ {A : Type 0} where
   -- new in front, the rest as lent
@@ -111,8 +111,8 @@ module _ {A : Type 0} where
   fronted new old = new ++ drop (length new) old
 
 -- the tree t in the needed slots, scratch zero, each buffer's surplus as lent
-unfoldable pub changed : Head → Lent → ℕ → Tree → Left
-changed h l more t =
+unfoldable pub changed : Head → Lent → Tree → Left
+changed h l t =
     let s = settingsOf h in
     record {
       head = withCounters h (countersOf t);
@@ -121,7 +121,7 @@ changed h l more t =
         floats = fronted (floatsOf s t) (l .floats);
         links = fronted (linksOf s t) (l .links);
         scratchFloats = fronted (replicate (scratchFloatsNeeded s) f0) (l .scratchFloats);
-        scratchLinks = fronted (replicate (scratchLinksNeeded s + more) 0) (l .scratchLinks);
+        scratchLinks = fronted (replicate (scratchLinksNeeded s) 0) (l .scratchLinks);
       };
     }
 
@@ -171,23 +171,23 @@ unfoldable pub rowInserted : Head → Lent → List Float → Left
 rowInserted h l x =
     let s = settingsOf h in
     let t = lentTree h (l .floats) (l .links) in
-    settle (changeRefusals h l 0 ++ rowRefusals s t x) h l (changed h l 0 (inserted s x t))
+    settle (changeRefusals h l ++ rowRefusals s t x) h l (changed h l (inserted s x t))
 
 unfoldable pub batchInserted : Head → Lent → List Float → Left
 batchInserted h l xs =
     let s = settingsOf h in
     let t = lentTree h (l .floats) (l .links) in
-    settle (changeRefusals h l 0 ++ batchRefusals s t xs) h l (changed h l 0 (insertedAll s (rowsOf (length xs / s .dim) (s .dim) xs) t))
+    settle (changeRefusals h l ++ batchRefusals s t xs) h l (changed h l (insertedAll s (rowsOf (length xs / s .dim) (s .dim) xs) t))
 
--- ---- refit: a number of scratch for each row besides
+-- ---- refit
 
 unfoldable pub batchRefitted : Head → Lent → List Float → Left
 batchRefitted h l xs =
     let s = settingsOf h in
     let n = length xs / s .dim in
     let t = lentTree h (l .floats) (l .links) in
-    settle (changeRefusals h l n ++ (batchShapeRefusal (s .dim) (length xs) ++ refitFullRefusal t n)) h l
-    (changed h l n (refitted s (rowsOf n (s .dim) xs) t))
+    settle (changeRefusals h l ++ (batchShapeRefusal (s .dim) (length xs) ++ refitFullRefusal t n)) h l
+    (changed h l (refitted s (rowsOf n (s .dim) xs) t))
 
 -- ---- calls that change nothing but an output
 

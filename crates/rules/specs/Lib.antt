@@ -14,6 +14,7 @@ pub mod Slices
 pub mod ListLaws
 pub mod Stored
 pub mod Calls
+pub mod RefusalLaws
 pub mod CallLaws
 pub mod Listing
 pub mod Histories

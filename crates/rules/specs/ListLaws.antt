@@ -1,4 +1,4 @@
--- Laws of the small functions on lists: tables, and lists of equally long pieces.
+-- Laws of the small functions on lists: tables, lists of equally long pieces, and rows cut from a list.
 use Prim.Native.Nat.{ℕ, zero, suc, _+_, _-_, _*_, _≤_, _<_}
 use mathlib.Core.Path.{_≡_, refl, sym, ap, _∙_}
 use mathlib.Core.List.{List, [], _∷_, _++_, map, append-assoc}
@@ -10,7 +10,7 @@ use native.Mathlib.Nat.{eq-or-lt-of-le, suc-mul, zero-mul, add-comm}
 use native.Mathlib.Omega.{arith}
 use lib.ListN.{length, getD, take, drop, replicate, length-append, length-replicate, List·getD-append}
 use lib.Seq.{take-at, drop-at, drop-drop, getD-append-seam, ext-getD}
-use Rattle.rules.specs.Lists.{snoc, joined, table}
+use Rattle.rules.specs.Lists.{snoc, joined, table, rowsOf}
 use Rattle.rules.specs.Slices.{stretch, filledTo}
 
 pub below? : (i n : ℕ) → (i < n) ⊎ (n ≤ i)
@@ -71,6 +71,21 @@ module _ {A : Type 0} where
   pub length-filled : (n : ℕ) (d : A) (l : List A) → length l ≤ n → length (filledTo n d l) ≡ n
   unfolding filledTo
   length-filled n d l h = length-append l (replicate (n - length l) d) ∙ rw (length-replicate (n - length l) d) (omega arith)
+
+module _ {A : Type 0} where
+  -- ---- rows
+
+  pub rows-count : (k n : ℕ) (l : List A) → length (rowsOf k n l) ≡ k
+  unfolding rowsOf
+  rows-count zero n l = refl
+  rows-count (suc k) n l = ap suc (rows-count k n (drop n l))
+
+  pub rows-at : (k n i : ℕ) (l : List A) → i < k → getD (rowsOf k n l) i [] ≡ take n (drop (i * n) l)
+  unfolding rowsOf
+  rows-at (suc k) n zero l h = ap (λ j. take n (drop j l)) (sym (zero-mul n))
+  rows-at (suc k) n (suc i) l h =
+      let next : n + i * n ≡ suc i * n = sym (suc-mul i n ∙ omega arith) in
+      rows-at k n i (drop n l) (omega arith) ∙ ap (take n) (drop-drop (i * n) n l ∙ ap (λ j. drop j l) next)
 
 pub map-at : {A B : Type 0} (f : A → B) (l : List A) (i : ℕ) (d : A) (e : B) → i < length l → getD (map f l) i e ≡ f (getD l i d)
 map-at f (x ∷ l) zero d e h = refl

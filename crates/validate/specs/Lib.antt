@@ -24,5 +24,6 @@ pub mod Examined
 pub mod Loops
 pub mod Lent
 pub mod Granted
+pub mod Passing
 pub mod Climbed
 pub mod Weighable

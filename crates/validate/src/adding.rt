@@ -56,7 +56,7 @@ fn entries_count(s: Settings, n: Counters, floats: &[f64]) -> bool
 }
 
 // The rows in all entries.
-fn total(s: Settings, n: Counters, floats: &[f64]) -> u64
+pub fn total(s: Settings, n: Counters, floats: &[f64]) -> u64
     requires { ⌜ Floats s n (length (now floats)) × EntriesCount s n (now floats) ⌝ }
     ensures { λ r. ⌜ AnyLinks s n (now (floats .entry)) (λ t. r ≡ totalOf (t .entries)) ⌝ }
 {

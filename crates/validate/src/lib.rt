@@ -1,5 +1,5 @@
 // The tree check: document 01's eight conditions in their order, with no mark on any node and no write to what is lent.
-mod adding;
+pub mod adding;
 mod climbing;
 mod forking;
 mod listed;

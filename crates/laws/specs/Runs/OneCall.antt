@@ -1,9 +1,6 @@
 -- One public call on buffers that hold a tree at rest: accepted, they hold the rule's tree, at rest again; refused, they are as before.
-use borrow.Author.Tests.{leb-true, eqb-true}
-use lib.Dec.{leb, eqb}
-use mathlib.Core.Bool.{Bool, true, false, _||_}
-use Prim.Native.Nat.{ℕ, zero, suc, _+_, _/_, _≤_, _<_}
-use mathlib.Core.Path.{_≡_, refl, sym, subst, ap, _∙_}
+use Prim.Native.Nat.{ℕ, _+_, _/_, _≤_, _<_}
+use mathlib.Core.Path.{_≡_, refl, sym, subst, _∙_}
 use mathlib.Core.List.{List, [], _∷_, _++_}
 use native.Mathlib.Omega.{arith}
 use lib.ListN.{length, drop}
@@ -23,7 +20,8 @@ use Rattle.rules.specs.Calls.{created, rowInserted, batchInserted, batchRefitte
 use Rattle.rules.specs.Calls.{batchShapeRefusal, madeBy, settingsRefusal, changeRefusals, roomRefusal, rowShapeRefusal}
 use Rattle.rules.specs.Tree.{fresh, Tree}
 use Rattle.rules.specs.Slices.{countersOf, floatsOf, linksOf}
-use Rattle.rules.specs.CallLaws.{none-both, unless-none}
+use Rattle.rules.specs.ListLaws.{rows-count}
+use Rattle.rules.specs.RefusalLaws.{none-both, unless-none, insert-full-none, refit-full-none}
 use Rattle.rules.specs.Lists.{rowsOf}
 use Rattle.rules.specs.Stored.{Fits, stored}
 use Rattle.rules.specs.Check.{totalOf}
@@ -58,15 +56,15 @@ accepted-done [] h l done e = (refl, refl)
 accepted-done (r ∷ rs) h l done e = let z : _≡_ {A = ℕ} 0 1 = cc in absurd (omega arith)
 
 -- the tree that a changing call leaves is the one that its rule gives
-changed-tree : (h : Head) (l : Lent) (more : ℕ) (t : Tree) → Sized (settingsOf h) → Fits (settingsOf h) t
-    → lentTree (changed h l more t .head) (changed h l more t .lent .floats) (changed h l more t .lent .links) ≡ t
+changed-tree : (h : Head) (l : Lent) (t : Tree) → Sized (settingsOf h) → Fits (settingsOf h) t
+    → lentTree (changed h l t .head) (changed h l t .lent .floats) (changed h l t .lent .links) ≡ t
 unfolding changed lentTree fronted settingsOf withCounters
-changed-tree h l more t z f =
+changed-tree h l t z f =
     stored (settingsOf h) z t f (drop (length (floatsOf (settingsOf h) t)) (l .floats)) (drop (length (linksOf (settingsOf h) t)) (l .links))
 
-changed-settings : (h : Head) (l : Lent) (more : ℕ) (t : Tree) → settingsOf (changed h l more t .head) ≡ settingsOf h
+changed-settings : (h : Head) (l : Lent) (t : Tree) → settingsOf (changed h l t .head) ≡ settingsOf h
 unfolding changed settingsOf withCounters
-changed-settings h l more t = refl
+changed-settings h l t = refl
 
 -- ---- what holds throughout: the lent tree is that of a run over the rules
 
@@ -77,52 +75,34 @@ pub record Public (h : Head) (fs : List Float) (ls : List ℕ) (ys : List (List 
   pub shaped : ShapedTree (settingsOf h) (lentTree h fs ls)
 
 -- one call from there: the rule's tree u, left in the buffers
-next : (h : Head) (l : Lent) (more : ℕ) (u : Tree) (ys : List (List Float)) (a : List ℕ) (threshold : Float) → Sized (settingsOf h)
+next : (h : Head) (l : Lent) (u : Tree) (ys : List (List Float)) (a : List ℕ) (threshold : Float) → Sized (settingsOf h)
     → Run (settingsOf h) threshold u ys a → ShapedTree (settingsOf h) u
-    → Public (changed h l more u .head) (changed h l more u .lent .floats) (changed h l more u .lent .links) ys a
-next h l more u ys a threshold z r k =
+    → Public (changed h l u .head) (changed h l u .lent .floats) (changed h l u .lent .links) ys a
+next h l u ys a threshold z r k =
     let o = run-owning z r in
-    let e = changed-tree h l more u z (resting-fits z u (length ys) (o .rests) k) in
-    let q = changed-settings h l more u in
+    let e = changed-tree h l u z (resting-fits z u (length ys) (o .rests) k) in
+    let q = changed-settings h l u in
     record {
       threshold = threshold;
       sizes = subst Sized (sym q) z;
-      run = subst (λ s. Run s threshold (lentTree (changed h l more u .head) (changed h l more u .lent .floats) (changed h l more u .lent .links)) ys a)
+      run = subst (λ s. Run s threshold (lentTree (changed h l u .head) (changed h l u .lent .floats) (changed h l u .lent .links)) ys a)
           (sym q) (subst (λ t. Run (settingsOf h) threshold t ys a) (sym e) r);
-      shaped = subst (λ s. ShapedTree s (lentTree (changed h l more u .head) (changed h l more u .lent .floats) (changed h l more u .lent .links))) (sym q)
+      shaped = subst (λ s. ShapedTree s (lentTree (changed h l u .head) (changed h l u .lent .floats) (changed h l u .lent .links))) (sym q)
           (subst (ShapedTree (settingsOf h)) (sym e) k);
     }
-
--- what tests passed say
-full-none : (t : Tree) (n : ℕ) → insertFullRefusal t n ≡ [] → totalOf (t .entries) + n ≤ most
-unfolding insertFullRefusal
-full-none t n e = leb-true (totalOf (t .entries) + n) most (unless-none (leb (totalOf (t .entries) + n) most) Refusals.Full e)
-
-refit-full-none : (t : Tree) (n : ℕ) → refitFullRefusal t n ≡ [] → 0 < length (t .entries) → n ≤ most
-unfolding refitFullRefusal
-refit-full-none t n e h = go (eqb (length (t .entries)) 0) refl (unless-none (eqb (length (t .entries)) 0 || leb n most) Refusals.Full e)
-  where
-    go : (b : Bool) → eqb (length (t .entries)) 0 ≡ b → (b || leb n most) ≡ true → n ≤ most
-    go true q f = let z = eqb-true (length (t .entries)) 0 q in absurd (omega arith)
-    go false q f = leb-true n most f
-
-rows-count : {A : Type 0} (k n : ℕ) (l : List A) → length (rowsOf k n l) ≡ k
-unfolding rowsOf
-rows-count zero n l = refl
-rows-count (suc k) n l = ap suc (rows-count k n (drop n l))
 
 abbrev PublicAfter : Left → List (List Float) → List ℕ → Type 0
 PublicAfter o ys a = Public (o .head) (o .lent .floats) (o .lent .links) ys a
 
 -- accepted, the call leaves what it says; refused, all is as before
-answered : (rs : List Refusal) (h : Head) (l : Lent) (more : ℕ) (u : Tree) {ys zs : List (List Float)} {a b : List ℕ} → Public h (l .floats) (l .links) ys a
-    → (settle rs h l (changed h l more u) .answer ≡ Accepted → PublicAfter (settle rs h l (changed h l more u)) zs b)
-    → (o : Left) → o ≡ settle rs h l (changed h l more u) → PublicAfter o (after (o .answer) zs ys) (after (o .answer) b a)
-answered rs h l more u {ys} {zs} {a} {b} p q o e = subst (λ o. PublicAfter o (after (o .answer) zs ys) (after (o .answer) b a)) (sym e) (go rs q)
+answered : (rs : List Refusal) (h : Head) (l : Lent) (u : Tree) {ys zs : List (List Float)} {a b : List ℕ} → Public h (l .floats) (l .links) ys a
+    → (settle rs h l (changed h l u) .answer ≡ Accepted → PublicAfter (settle rs h l (changed h l u)) zs b)
+    → (o : Left) → o ≡ settle rs h l (changed h l u) → PublicAfter o (after (o .answer) zs ys) (after (o .answer) b a)
+answered rs h l u {ys} {zs} {a} {b} p q o e = subst (λ o. PublicAfter o (after (o .answer) zs ys) (after (o .answer) b a)) (sym e) (go rs q)
   where
-    go : (rs : List Refusal) → (settle rs h l (changed h l more u) .answer ≡ Accepted → PublicAfter (settle rs h l (changed h l more u)) zs b)
-        → PublicAfter (settle rs h l (changed h l more u)) (after (settle rs h l (changed h l more u) .answer) zs ys)
-        (after (settle rs h l (changed h l more u) .answer) b a)
+    go : (rs : List Refusal) → (settle rs h l (changed h l u) .answer ≡ Accepted → PublicAfter (settle rs h l (changed h l u)) zs b)
+        → PublicAfter (settle rs h l (changed h l u)) (after (settle rs h l (changed h l u) .answer) zs ys)
+        (after (settle rs h l (changed h l u) .answer) b a)
     go [] q = unfold settle changed after in q refl
     go (r ∷ rs) q = unfold settle after in p
 
@@ -135,33 +115,33 @@ module _ (h : Head) (l : Lent) where
 
   -- ---- accepted: the rule's tree is left, and the rows fit below 2^53
 
-  pub row-accepted : (x : List Float) → rowInserted h l x .answer ≡ Accepted → (rowInserted h l x ≡ changed h l 0 (inserted s x t))
+  pub row-accepted : (x : List Float) → rowInserted h l x .answer ≡ Accepted → (rowInserted h l x ≡ changed h l (inserted s x t))
       × (totalOf (t .entries) + 1 ≤ most)
   unfolding rowInserted rowRefusals
   row-accepted x e =
-      let (none, is) = accepted-done (changeRefusals h l 0 ++ rowRefusals s t x) h l (changed h l 0 (inserted s x t)) e in
-      let wrong = none-both (changeRefusals h l 0) (rowRefusals s t x) none .1 in
-      (is, full-none t 1 (none-both (rowShapeRefusal (s .dim) (length x)) (insertFullRefusal t 1) wrong .1))
+      let (none, is) = accepted-done (changeRefusals h l ++ rowRefusals s t x) h l (changed h l (inserted s x t)) e in
+      let wrong = none-both (changeRefusals h l) (rowRefusals s t x) none .1 in
+      (is, insert-full-none t 1 (none-both (rowShapeRefusal (s .dim) (length x)) (insertFullRefusal t 1) wrong .1))
 
   pub batch-accepted : (xs : List Float) → batchInserted h l xs .answer ≡ Accepted
-      → (batchInserted h l xs ≡ changed h l 0 (insertedAll s (rowsIn h xs) t)) × (totalOf (t .entries) + length (rowsIn h xs) ≤ most)
+      → (batchInserted h l xs ≡ changed h l (insertedAll s (rowsIn h xs) t)) × (totalOf (t .entries) + length (rowsIn h xs) ≤ most)
   unfolding batchInserted batchRefusals rowsIn
   batch-accepted xs e =
       let n = length xs / s .dim in
-      let (none, is) = accepted-done (changeRefusals h l 0 ++ batchRefusals s t xs) h l (changed h l 0 (insertedAll s (rowsOf n (s .dim) xs) t)) e in
-      let wrong = none-both (changeRefusals h l 0) (batchRefusals s t xs) none .1 in
-      let small = full-none t n (none-both (batchShapeRefusal (s .dim) (length xs)) (insertFullRefusal t n) wrong .1) in
+      let (none, is) = accepted-done (changeRefusals h l ++ batchRefusals s t xs) h l (changed h l (insertedAll s (rowsOf n (s .dim) xs) t)) e in
+      let wrong = none-both (changeRefusals h l) (batchRefusals s t xs) none .1 in
+      let small = insert-full-none t n (none-both (batchShapeRefusal (s .dim) (length xs)) (insertFullRefusal t n) wrong .1) in
       let c = rows-count n (s .dim) xs in
       (is, omega arith)
 
   pub refit-accepted : (xs : List Float) → batchRefitted h l xs .answer ≡ Accepted
-      → (batchRefitted h l xs ≡ changed h l (length xs / s .dim) (refitted s (rowsIn h xs) t)) × (0 < length (t .entries) → length (rowsIn h xs) ≤ most)
+      → (batchRefitted h l xs ≡ changed h l (refitted s (rowsIn h xs) t)) × (0 < length (t .entries) → length (rowsIn h xs) ≤ most)
   unfolding batchRefitted rowsIn
   refit-accepted xs e =
       let n = length xs / s .dim in
       let wrong = batchShapeRefusal (s .dim) (length xs) ++ refitFullRefusal t n in
-      let (none, is) = accepted-done (changeRefusals h l n ++ wrong) h l (changed h l n (refitted s (rowsOf n (s .dim) xs) t)) e in
-      let full = none-both (batchShapeRefusal (s .dim) (length xs)) (refitFullRefusal t n) (none-both (changeRefusals h l n) wrong none .1) .1 in
+      let (none, is) = accepted-done (changeRefusals h l ++ wrong) h l (changed h l (refitted s (rowsOf n (s .dim) xs) t)) e in
+      let full = none-both (batchShapeRefusal (s .dim) (length xs)) (refitFullRefusal t n) (none-both (changeRefusals h l) wrong none .1) .1 in
       (is, λ m. let small = refit-full-none t n full m in let c = rows-count n (s .dim) xs in omega arith)
 
   module _ (ys : List (List Float)) (a : List ℕ) (p : Public h (l .floats) (l .links) ys a) where
@@ -177,7 +157,7 @@ module _ (h : Head) (l : Lent) where
         let (is, small) = row-accepted x e in
         let (run, k) = row-run x small in
         subst (λ o. PublicAfter o (ys ++ (x ∷ [])) (ownersIn s x t a)) (sym is)
-        (next h l 0 (inserted s x t) (ys ++ (x ∷ [])) (ownersIn s x t a) (p .threshold) (p .sizes) run k)
+        (next h l (inserted s x t) (ys ++ (x ∷ [])) (ownersIn s x t a) (p .threshold) (p .sizes) run k)
 
     after-batch : (xs : List Float) → batchInserted h l xs .answer ≡ Accepted
         → PublicAfter (batchInserted h l xs) (ys ++ rowsIn h xs) (ownersAll s (rowsIn h xs) t a)
@@ -186,7 +166,7 @@ module _ (h : Head) (l : Lent) where
         let (is, small) = batch-accepted xs e in
         let run : Run s (p .threshold) (insertedAll s rows t) (ys ++ rows) (ownersAll s rows t a) = insert {t = t} rows small (p .run) in
         subst (λ o. PublicAfter o (ys ++ rows) (ownersAll s rows t a)) (sym is)
-        (next h l 0 (insertedAll s rows t) (ys ++ rows) (ownersAll s rows t a) (p .threshold) (p .sizes) run (batch-shaped s rows t (p .shaped)))
+        (next h l (insertedAll s rows t) (ys ++ rows) (ownersAll s rows t a) (p .threshold) (p .sizes) run (batch-shaped s rows t (p .shaped)))
 
     after-refit : (xs : List Float) → batchRefitted h l xs .answer ≡ Accepted
         → PublicAfter (batchRefitted h l xs) (rowsRefit (rowsIn h xs) t ys) (ownersRefit s (rowsIn h xs) t a)
@@ -195,7 +175,7 @@ module _ (h : Head) (l : Lent) where
         let (is, small) = refit-accepted xs e in
         let run : Run s (p .threshold) (refitted s rows t) (rowsRefit rows t ys) (ownersRefit s rows t a) = refit {t = t} rows small (p .run) in
         subst (λ o. PublicAfter o (rowsRefit rows t ys) (ownersRefit s rows t a)) (sym is)
-        (next h l (length xs / s .dim) (refitted s rows t) (rowsRefit rows t ys) (ownersRefit s rows t a) (p .threshold) (p .sizes) run
+        (next h l (refitted s rows t) (rowsRefit rows t ys) (ownersRefit s rows t a) (p .threshold) (p .sizes) run
         (refit-shaped s rows t (p .shaped)))
 
     -- ---- with any answer
@@ -203,20 +183,20 @@ module _ (h : Head) (l : Lent) where
     pub any-row : (x : List Float) (o : Left) → o ≡ rowInserted h l x
         → PublicAfter o (after (o .answer) (ys ++ (x ∷ [])) ys) (after (o .answer) (ownersIn s x t a) a)
     unfolding rowInserted
-    any-row x o e = answered (changeRefusals h l 0 ++ rowRefusals s t x) h l 0 (inserted s x t) p (after-row x) o e
+    any-row x o e = answered (changeRefusals h l ++ rowRefusals s t x) h l (inserted s x t) p (after-row x) o e
 
     pub any-batch : (xs : List Float) (o : Left) → o ≡ batchInserted h l xs
         → PublicAfter o (after (o .answer) (ys ++ rowsIn h xs) ys) (after (o .answer) (ownersAll s (rowsIn h xs) t a) a)
     unfolding batchInserted rowsIn
     any-batch xs o e =
-        answered (changeRefusals h l 0 ++ batchRefusals s t xs) h l 0 (insertedAll s (rowsOf (length xs / s .dim) (s .dim) xs) t) p (after-batch xs) o e
+        answered (changeRefusals h l ++ batchRefusals s t xs) h l (insertedAll s (rowsOf (length xs / s .dim) (s .dim) xs) t) p (after-batch xs) o e
 
     pub any-refit : (xs : List Float) (o : Left) → o ≡ batchRefitted h l xs
         → PublicAfter o (after (o .answer) (rowsRefit (rowsIn h xs) t ys) ys) (after (o .answer) (ownersRefit s (rowsIn h xs) t a) a)
     unfolding batchRefitted rowsIn
     any-refit xs o e =
         let n = length xs / s .dim in
-        answered (changeRefusals h l n ++ (batchShapeRefusal (s .dim) (length xs) ++ refitFullRefusal t n)) h l n (refitted s (rowsOf n (s .dim) xs) t) p
+        answered (changeRefusals h l ++ (batchShapeRefusal (s .dim) (length xs) ++ refitFullRefusal t n)) h l (refitted s (rowsOf n (s .dim) xs) t) p
         (after-refit xs) o e
 
     -- ---- locality of an accepted row without a rebuild
@@ -229,7 +209,7 @@ module _ (h : Head) (l : Lent) where
         let o = run-owning (p .sizes) (p .run) in
         let q = run-owning (p .sizes) run .rests in
         let n = rest-total (o .rests) in
-        let left = changed-tree h l 0 (inserted s x t) (p .sizes) (resting-fits (p .sizes) (inserted s x t) (length (ys ++ (x ∷ []))) q k) in
+        let left = changed-tree h l (inserted s x t) (p .sizes) (resting-fits (p .sizes) (inserted s x t) (length (ys ++ (x ∷ []))) q k) in
         subst (λ o. Local s x t (lentTree (o .head) (o .lent .floats) (o .lent .links))) (sym is)
         (subst (λ u. Local s x t u) (sym (left ∙ no-rebuild s x t few)) (row-local s x t (p .sizes) (o .rests) (omega arith)))
 

@@ -1,0 +1,3 @@
+-- Outputs: the front written, the rest as lent.
+pub mod Spread
+pub mod Written

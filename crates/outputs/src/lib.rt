@@ -1,0 +1,3 @@
+// What a call writes to the front of a lent output.
+pub mod routes;
+pub mod spread;

@@ -182,7 +182,7 @@ class Library:
         except Refused:
             self.tree = before
             raise
-        self.changed("create", 0)
+        self.changed("create")
 
     def insert(self, numbers, one_row):
         rows = self.begin("insert", numbers, one_row)

@@ -5,6 +5,7 @@ import subprocess
 
 HERE = os.path.dirname(os.path.dirname(os.path.abspath(__file__)))
 RUST = os.path.join(os.path.dirname(HERE), "target", "oracle", "oracle")
+LIBRARY = os.path.join(os.path.dirname(HERE), "target", "oracle", "library")
 LONGEST = 600      # seconds that a speaker may take over one lot of cases
 BLOCKS = ("state", "listing", "raw")
 
@@ -14,7 +15,7 @@ class SpeakerError(Exception):
 
 
 class Speaker:
-    """`rust`, `reading`, `reading:NAME` with a wrong reading on, or any command line."""
+    """`rust`, `library`, `reading`, `reading:NAME` with a wrong reading on, or any command line."""
 
     def __init__(self, name):
         self.name = name
@@ -23,6 +24,10 @@ class Speaker:
             if not os.access(RUST, os.X_OK):
                 raise SpeakerError("target/oracle/oracle is missing; run oracle/build")
             self.command = [RUST]
+        elif name == "library":
+            if not os.access(LIBRARY, os.X_OK):
+                raise SpeakerError("target/oracle/library is missing; run `rt staticlib export` and oracle/build")
+            self.command = [LIBRARY]
         elif name == "reading" or name.startswith("reading:"):
             self.command = [os.path.join(HERE, "reading")]
             for wrong in name.split(":")[1:]:

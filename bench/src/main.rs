@@ -1,0 +1,235 @@
+//! Rows per second of the library and of the Rust original, and the ratio of their times.
+
+mod rows;
+mod sides;
+
+use betula::distance::{CFDistance, CentroidEuclidean, Radius, VarianceIncrease};
+use betula::feature::{ClusterFeature, Diagonal, Spherical};
+use cftree::{Distance, Feature, Settings};
+use rows::Rows;
+use sides::{Ours, Side, Theirs};
+use std::hint::black_box;
+use std::time::Instant;
+
+const RUNS: usize = 5;
+const DIM: usize = 4;
+const STREAM: usize = 20_000;
+const OTHER: usize = 10_000;
+
+/// One measurement: seconds of each run.
+#[derive(Default)]
+struct Times(Vec<f64>);
+
+impl Times {
+    fn best(&self) -> f64 {
+        self.0.iter().copied().fold(f64::INFINITY, f64::min)
+    }
+
+    /// How much longer the slowest run took than the best, in parts of a hundred.
+    fn spread(&self) -> f64 {
+        100.0 * (self.0.iter().copied().fold(0.0, f64::max) / self.best() - 1.0)
+    }
+}
+
+fn seconds(work: impl FnOnce()) -> f64 {
+    let start = Instant::now();
+    work();
+    start.elapsed().as_secs_f64()
+}
+
+fn line(name: &str, rows: usize, ours: &Times, theirs: &Times) {
+    println!(
+        "| {name} | {:.0} | {:.0} % | {:.0} | {:.0} % | {:.2} |",
+        rows as f64 / ours.best(),
+        ours.spread(),
+        rows as f64 / theirs.best(),
+        theirs.spread(),
+        ours.best() / theirs.best()
+    );
+}
+
+/// The same work on both sides in turn, and that both end with the same numbers.
+fn measured(
+    name: &str,
+    rows: usize,
+    make: [&dyn Fn() -> Box<dyn Side>; 2],
+    ready: &dyn Fn(&mut dyn Side),
+    work: &dyn Fn(&mut dyn Side) -> Vec<usize>,
+) {
+    let mut times = [Times::default(), Times::default()];
+    for _ in 0..RUNS {
+        let mut ends = Vec::new();
+        for side in 0..2 {
+            let mut tree = make[side]();
+            ready(tree.as_mut());
+            let mut found = Vec::new();
+            times[side]
+                .0
+                .push(seconds(|| found = black_box(work(tree.as_mut()))));
+            ends.push((found, tree.print()));
+        }
+        assert!(ends[0] == ends[1], "{name}: the two trees differ");
+    }
+    line(name, rows, &times[0], &times[1]);
+}
+
+fn batches(tree: &mut dyn Side, flat: &[f64]) {
+    for batch in flat.chunks(1000 * DIM) {
+        tree.batch(batch);
+    }
+}
+
+fn pair<C, D, A>(name: &str, s: Settings, dist: fn() -> D, abs: fn() -> A)
+where
+    C: ClusterFeature<f64> + 'static,
+    D: CFDistance<f64, C> + 'static,
+    A: CFDistance<f64, C> + 'static,
+{
+    let flat = Rows::new(1).flat(DIM, STREAM);
+    let other = Rows::new(2).flat(DIM, OTHER);
+    let ours =
+        |m: usize| move || Box::new(Ours::new(Settings { max_leaves: m, ..s })) as Box<dyn Side>;
+    let theirs = move |m: usize| {
+        move || {
+            Box::new(Theirs::<C, D, A>::new(
+                Settings { max_leaves: m, ..s },
+                dist(),
+                abs(),
+            )) as Box<dyn Side>
+        }
+    };
+    let full = |tree: &mut dyn Side| batches(tree, &flat);
+    let none = |_: &mut dyn Side| ();
+    for m in [256, 24] {
+        let make: [&dyn Fn() -> Box<dyn Side>; 2] = [&ours(m), &theirs(m)];
+        measured(
+            &format!("{name}, M {m}, batches of 1,000"),
+            STREAM,
+            make,
+            &none,
+            &|t| {
+                batches(t, &flat);
+                Vec::new()
+            },
+        );
+        if m == 24 {
+            measured(
+                &format!("{name}, M {m}, single rows"),
+                STREAM,
+                make,
+                &none,
+                &|t| {
+                    flat.chunks_exact(DIM).for_each(|row| t.insert(row));
+                    Vec::new()
+                },
+            );
+        }
+        measured(
+            &format!("{name}, M {m}, routing"),
+            OTHER,
+            make,
+            &full,
+            &|t| t.routes(&other),
+        );
+        measured(&format!("{name}, M {m}, refit"), OTHER, make, &full, &|t| {
+            t.refit(&other);
+            Vec::new()
+        });
+    }
+}
+
+/// Microseconds of a call that changes nothing, on a full tree: the tree check and the zeroing, which every call pays once.
+fn idle(s: Settings) {
+    let flat = Rows::new(1).flat(DIM, STREAM);
+    for m in [24, 256] {
+        let mut tree = Ours::new(Settings { max_leaves: m, ..s });
+        batches(&mut tree, &flat);
+        let mut times = Times::default();
+        for _ in 0..RUNS {
+            times
+                .0
+                .push(seconds(|| (0..1000).for_each(|_| tree.batch(&[]))) * 1000.0);
+        }
+        println!(
+            "a batch of no rows, M {m}: {:.2} microseconds, slowest {:.0} % more",
+            times.best(),
+            times.spread()
+        );
+    }
+}
+
+fn settings(feature: Feature, dist: Distance, abs: Distance) -> Settings {
+    Settings {
+        dim: DIM,
+        branching: 8,
+        leaf_cap: 8,
+        max_leaves: 256,
+        feature,
+        dist,
+        abs,
+        threshold: 0.0,
+    }
+}
+
+/// The library's insert alone, for a profiler: single rows at M 24, batches above.
+fn insert(m: usize, runs: usize) {
+    let s = settings(
+        Feature::Spherical,
+        Distance::CentroidEuclidean,
+        Distance::CentroidEuclidean,
+    );
+    let flat = Rows::new(1).flat(DIM, STREAM);
+    for _ in 0..runs {
+        let mut tree = Ours::new(Settings { max_leaves: m, ..s });
+        if m <= 24 {
+            flat.chunks_exact(DIM).for_each(|row| tree.insert(row));
+        } else {
+            batches(&mut tree, &flat);
+        }
+        black_box(tree.print());
+    }
+}
+
+fn main() {
+    let words: Vec<String> = std::env::args().skip(1).collect();
+    let words: Vec<&str> = words.iter().map(String::as_str).collect();
+    match words[..] {
+        [] => {}
+        ["insert", m, runs] => {
+            let number = |w: &str| w.parse().expect("bench insert M RUNS");
+            return insert(number(m), number(runs));
+        }
+        _ => panic!("usage: bench [insert M RUNS]"),
+    }
+    println!("| what | ours, rows/s | slowest | Rust, rows/s | slowest | time, ours/Rust |");
+    println!("|---|---|---|---|---|---|");
+    use Distance as D;
+    let near = |f| settings(f, D::CentroidEuclidean, D::CentroidEuclidean);
+    let wide = |f| settings(f, D::VarianceIncrease, D::Radius);
+    pair::<Spherical<f64>, _, _>(
+        "Spherical, euclidean euclidean",
+        near(Feature::Spherical),
+        || CentroidEuclidean,
+        || CentroidEuclidean,
+    );
+    pair::<Diagonal<f64>, _, _>(
+        "Diagonal, euclidean euclidean",
+        near(Feature::Diagonal),
+        || CentroidEuclidean,
+        || CentroidEuclidean,
+    );
+    pair::<Spherical<f64>, _, _>(
+        "Spherical, increase radius",
+        wide(Feature::Spherical),
+        || VarianceIncrease,
+        || Radius,
+    );
+    pair::<Diagonal<f64>, _, _>(
+        "Diagonal, increase radius",
+        wide(Feature::Diagonal),
+        || VarianceIncrease,
+        || Radius,
+    );
+    println!();
+    idle(near(Feature::Spherical));
+}

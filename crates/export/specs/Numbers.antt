@@ -1,0 +1,58 @@
+-- Heads, answers and outcomes as numbers: every number of the head, and of an answer document 01's number and values.
+use Prim.Native.Nat.{ℕ}
+use lib.ListN.{getD}
+use Rattle.head.specs.Refusals.{numberOf, valuesOf}
+use Rattle.head.specs.declared.Head.{Head}
+use Rattle.head.specs.declared.refusal.Refusal.{Refusal}
+use Rattle.head.specs.declared.refusal.Answer.{Answer}
+use Rattle.head.specs.declared.refusal.Answer.the-variants.{Accepted, Refused}
+use Rattle.cftree.specs.declared.Outcome.{Outcome}
+use Rattle.export.specs.declared.HeadNumbers.{HeadNumbers}
+use Rattle.export.specs.declared.AnswerNumbers.{AnswerNumbers}
+use Rattle.export.specs.declared.OutcomeNumbers.{OutcomeNumbers}
+
+unfoldable pub headOf : HeadNumbers → Head
+headOf h =
+    record {
+      dim = h .dim;
+      branching = h .branching;
+      «leaf_cap» = h .«leaf_cap»;
+      «max_leaves» = h .«max_leaves»;
+      feature = h .feature;
+      dist = h .dist;
+      abs = h .abs;
+      counters = record { nodes = h .nodes; entries = h .entries; root = h .root; threshold = h .threshold; rebuilds = h .rebuilds; merged = h .merged };
+    }
+
+unfoldable pub headNumbers : Head → HeadNumbers
+headNumbers h =
+    let n = h .counters in
+    record {
+      dim = h .dim;
+      branching = h .branching;
+      «leaf_cap» = h .«leaf_cap»;
+      «max_leaves» = h .«max_leaves»;
+      nodes = n .nodes;
+      entries = n .entries;
+      root = n .root;
+      rebuilds = n .rebuilds;
+      merged = n .merged;
+      threshold = n .threshold;
+      feature = h .feature;
+      dist = h .dist;
+      abs = h .abs;
+    }
+
+abbrev pub withValues : ℕ → ℕ → ℕ → AnswerNumbers
+withValues number first second = record { first = first; second = second; number = number }
+
+-- document 01's number, and the values that come with it, 0 where there is none
+unfoldable pub refusalNumbers : Refusal → AnswerNumbers
+refusalNumbers r = withValues (numberOf r) (getD (valuesOf r) 0 0) (getD (valuesOf r) 1 0)
+
+unfoldable pub answerNumbers : Answer → AnswerNumbers
+answerNumbers Accepted = withValues 0 0 0
+answerNumbers (Refused r) = refusalNumbers r
+
+unfoldable pub outcomeNumbers : Outcome → OutcomeNumbers
+outcomeNumbers o = record { head = headNumbers (o .head); answer = answerNumbers (o .answer) }

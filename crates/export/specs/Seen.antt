@@ -1,0 +1,39 @@
+-- What a call that only reads gives back and writes: the rules' outcome, its answer in numbers.
+use mathlib.Core.Path.{_≡_, ap, _∙_}
+use mathlib.Core.List.{List}
+use Rattle.rules.specs.Calls.{Listed, Written}
+use Rattle.rules.specs.declared.Places.{Places}
+use Rattle.head.specs.declared.refusal.Answer.{Answer}
+use Rattle.cftree.specs.Looks as Plain
+use Rattle.cftree.specs.declared.look.Listing.{Listing}
+use Rattle.export.specs.Numbers.{answerNumbers}
+use Rattle.export.specs.declared.AnswerNumbers.{AnswerNumbers}
+use Rattle.export.specs.declared.ListingNumbers.{ListingNumbers}
+
+-- ---- where the entries stand
+
+unfoldable pub listedNumbers : Listed → ListingNumbers
+listedNumbers l =
+    let p = l .places in
+    record { answer = answerNumbers (l .answer); entries = p .entries; first = p .first; width = p .width; means = p .means; deviations = p .deviations }
+
+abbrev pub listingNumbers : Listing → ListingNumbers
+listingNumbers l = listedNumbers (Plain.listing l)
+
+-- ---- an output
+
+pub record WrittenNumbers (A : Type 0) : Type 0 where
+  pub answer : AnswerNumbers
+  pub output : List A
+
+module _ {A : Type 0} where
+  unfoldable pub writtenNumbers : Written A → WrittenNumbers A
+  writtenNumbers w = record { answer = answerNumbers (w .answer); output = w .output }
+
+  abbrev pub written : AnswerNumbers → List A → WrittenNumbers A
+  written r out = record { answer = r; output = out }
+
+  pub written-numbers : {r : AnswerNumbers} {a : Answer} {out : List A} {w : Written A}
+      → r ≡ answerNumbers a → Plain.written a out ≡ w → written r out ≡ writtenNumbers w
+  unfolding writtenNumbers
+  written-numbers p q = rw p (ap writtenNumbers q)

@@ -1,0 +1,238 @@
+//! The C layer as `include/cftree.h` has it. Every `unsafe` of the crate is here: a slice is passed as its pointer and its
+//! length, and the library reads and writes nothing else.
+
+use crate::lent::{Head, Places};
+
+#[repr(C)]
+pub struct Answer {
+    pub first: u64,
+    pub second: u64,
+    pub number: u32,
+}
+
+#[repr(C)]
+pub struct Outcome {
+    pub head: Head,
+    pub answer: Answer,
+}
+
+#[repr(C)]
+pub struct Listing {
+    pub answer: Answer,
+    pub places: Places,
+}
+
+extern "C" {
+    fn cftree_floats_needed(head: Head) -> u64;
+    fn cftree_links_needed(head: Head) -> u64;
+    fn cftree_scratch_floats_needed(head: Head) -> u64;
+    fn cftree_scratch_links_needed(head: Head) -> u64;
+    fn cftree_create(
+        head: Head,
+        floats: *mut f64,
+        floats_len: usize,
+        links: *mut u32,
+        links_len: usize,
+    ) -> Outcome;
+    fn cftree_validate(
+        head: Head,
+        floats: *const f64,
+        floats_len: usize,
+        links: *const u32,
+        links_len: usize,
+    ) -> Answer;
+    fn cftree_entries(
+        head: Head,
+        floats: *const f64,
+        floats_len: usize,
+        links: *const u32,
+        links_len: usize,
+    ) -> Listing;
+    fn cftree_route(
+        head: Head,
+        floats: *const f64,
+        floats_len: usize,
+        links: *const u32,
+        links_len: usize,
+        rows: *const f64,
+        rows_len: usize,
+        out: *mut u32,
+        out_len: usize,
+    ) -> Answer;
+    fn cftree_spread(
+        head: Head,
+        floats: *const f64,
+        floats_len: usize,
+        links: *const u32,
+        links_len: usize,
+        out: *mut f64,
+        out_len: usize,
+    ) -> Answer;
+}
+
+/// A call that changes the tree: head, floats, links, scratch of both kinds, rows.
+type Change = unsafe extern "C" fn(
+    Head,
+    *mut f64,
+    usize,
+    *mut u32,
+    usize,
+    *mut f64,
+    usize,
+    *mut u32,
+    usize,
+    *const f64,
+    usize,
+) -> Outcome;
+
+macro_rules! changing {
+    ($($name:ident)*) => {
+        extern "C" {
+            $(fn $name(
+                head: Head,
+                floats: *mut f64,
+                floats_len: usize,
+                links: *mut u32,
+                links_len: usize,
+                scratch: *mut f64,
+                scratch_len: usize,
+                numbers: *mut u32,
+                numbers_len: usize,
+                rows: *const f64,
+                rows_len: usize,
+            ) -> Outcome;)*
+        }
+    };
+}
+
+changing! { cftree_insert_row cftree_insert_batch cftree_refit }
+
+pub fn floats_needed(head: Head) -> u64 {
+    // SAFETY: the call takes numbers only.
+    unsafe { cftree_floats_needed(head) }
+}
+
+pub fn links_needed(head: Head) -> u64 {
+    // SAFETY: as above.
+    unsafe { cftree_links_needed(head) }
+}
+
+pub fn scratch_floats_needed(head: Head) -> u64 {
+    // SAFETY: as above.
+    unsafe { cftree_scratch_floats_needed(head) }
+}
+
+pub fn scratch_links_needed(head: Head) -> u64 {
+    // SAFETY: as above.
+    unsafe { cftree_scratch_links_needed(head) }
+}
+
+pub fn create(head: Head, floats: &mut [f64], links: &mut [u32]) -> Outcome {
+    // SAFETY: each pointer goes with its slice's length, and the slices are exclusive.
+    unsafe {
+        cftree_create(
+            head,
+            floats.as_mut_ptr(),
+            floats.len(),
+            links.as_mut_ptr(),
+            links.len(),
+        )
+    }
+}
+
+/// What is lent to a changing call.
+pub struct Lent<'a> {
+    pub floats: &'a mut [f64],
+    pub links: &'a mut [u32],
+    pub scratch: &'a mut [f64],
+    pub numbers: &'a mut [u32],
+}
+
+fn change(call: Change, head: Head, lent: Lent, rows: &[f64]) -> Outcome {
+    // SAFETY: each pointer goes with its slice's length, and the slices that are written are exclusive.
+    unsafe {
+        call(
+            head,
+            lent.floats.as_mut_ptr(),
+            lent.floats.len(),
+            lent.links.as_mut_ptr(),
+            lent.links.len(),
+            lent.scratch.as_mut_ptr(),
+            lent.scratch.len(),
+            lent.numbers.as_mut_ptr(),
+            lent.numbers.len(),
+            rows.as_ptr(),
+            rows.len(),
+        )
+    }
+}
+
+pub fn insert_row(head: Head, lent: Lent, row: &[f64]) -> Outcome {
+    change(cftree_insert_row, head, lent, row)
+}
+
+pub fn insert_batch(head: Head, lent: Lent, rows: &[f64]) -> Outcome {
+    change(cftree_insert_batch, head, lent, rows)
+}
+
+pub fn refit(head: Head, lent: Lent, rows: &[f64]) -> Outcome {
+    change(cftree_refit, head, lent, rows)
+}
+
+pub fn validate(head: Head, floats: &[f64], links: &[u32]) -> Answer {
+    // SAFETY: each pointer goes with its slice's length, and nothing is written.
+    unsafe {
+        cftree_validate(
+            head,
+            floats.as_ptr(),
+            floats.len(),
+            links.as_ptr(),
+            links.len(),
+        )
+    }
+}
+
+pub fn entries(head: Head, floats: &[f64], links: &[u32]) -> Listing {
+    // SAFETY: as above.
+    unsafe {
+        cftree_entries(
+            head,
+            floats.as_ptr(),
+            floats.len(),
+            links.as_ptr(),
+            links.len(),
+        )
+    }
+}
+
+pub fn route(head: Head, floats: &[f64], links: &[u32], rows: &[f64], out: &mut [u32]) -> Answer {
+    // SAFETY: each pointer goes with its slice's length, and the output is exclusive.
+    unsafe {
+        cftree_route(
+            head,
+            floats.as_ptr(),
+            floats.len(),
+            links.as_ptr(),
+            links.len(),
+            rows.as_ptr(),
+            rows.len(),
+            out.as_mut_ptr(),
+            out.len(),
+        )
+    }
+}
+
+pub fn spread(head: Head, floats: &[f64], links: &[u32], out: &mut [f64]) -> Answer {
+    // SAFETY: each pointer goes with its slice's length, and the output is exclusive.
+    unsafe {
+        cftree_spread(
+            head,
+            floats.as_ptr(),
+            floats.len(),
+            links.as_ptr(),
+            links.len(),
+            out.as_mut_ptr(),
+            out.len(),
+        )
+    }
+}

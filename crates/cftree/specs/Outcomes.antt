@@ -11,6 +11,7 @@ use Rattle.head.specs.declared.refusal.Answer.the-variants.{Accepted, Refused}
 use Rattle.rules.specs.Calls.{Lent, Left, Made, answerOf, settle, madeBy}
 use Rattle.refusals.specs.Lending.{lending}
 use Rattle.rules.specs.RefusalLaws.{accepted-none}
+use Rattle.rules.specs.CallLaws.{refused-unchanged}
 use Rattle.fronts.specs.Whole as Front
 use Rattle.cftree.specs.declared.Outcome.{Outcome}
 
@@ -41,13 +42,7 @@ module _ (h : Head) (fs : List Float) (ls : List ℕ) (rs : List Refusal) {a : A
 module _ (h : Head) (l : Lent) (rs : List Refusal) {a : Answer} (e : a ≡ answerOf rs) (done : Left) where
   pub refused-as-lent : {r : Refusal} → a ≡ Refused r
       → left (record { head = h; answer = a }) (l .floats) (l .links) (l .scratchFloats) (l .scratchLinks) ≡ settle rs h l done
-  unfolding answerOf settle
-  refused-as-lent {r} q = go rs e
-    where
-      go : (rs : List Refusal) → a ≡ answerOf rs
-          → left (record { head = h; answer = a }) (l .floats) (l .links) (l .scratchFloats) (l .scratchLinks) ≡ settle rs h l done
-      go [] e = let z : _≡_ {A = ℕ} 0 1 = cc in absurd (omega arith)
-      go (x ∷ rs) e = rw e
+  refused-as-lent {r} q = rw q (sym (refused-unchanged h l done rs r (sym e ∙ q)))
 
   pub done-as-ruled : a ≡ Accepted → {g : Head} {gs : List Float} {ks : List ℕ} {ss : List Float} {ns : List ℕ} → Front.left g gs ks ss ns ≡ done
       → left (record { head = g; answer = a }) gs ks ss ns ≡ settle rs h l done

@@ -14,6 +14,7 @@ use std::time::Instant;
 const RUNS: usize = 5;
 const DIM: usize = 4;
 const STREAM: usize = 20_000;
+const BATCH: usize = 1_000;
 const OTHER: usize = 10_000;
 
 /// One measurement: seconds of each run.
@@ -29,6 +30,13 @@ impl Times {
     fn spread(&self) -> f64 {
         100.0 * (self.0.iter().copied().fold(0.0, f64::max) / self.best() - 1.0)
     }
+
+    /// Each run's time in times of the other's: the middle one, the least and the most.
+    fn ratios(&self, other: &Times) -> (f64, f64, f64) {
+        let mut all: Vec<f64> = self.0.iter().zip(&other.0).map(|(a, b)| a / b).collect();
+        all.sort_by(f64::total_cmp);
+        (all[all.len() / 2], all[0], all[all.len() - 1])
+    }
 }
 
 fn seconds(work: impl FnOnce()) -> f64 {
@@ -38,43 +46,46 @@ fn seconds(work: impl FnOnce()) -> f64 {
 }
 
 fn line(name: &str, rows: usize, ours: &Times, theirs: &Times) {
+    let (middle, least, most) = ours.ratios(theirs);
     println!(
-        "| {name} | {:.0} | {:.0} % | {:.0} | {:.0} % | {:.2} |",
+        "| {name} | {:.0} | {:.0} | {middle:.2} | {least:.2} to {most:.2} |",
         rows as f64 / ours.best(),
-        ours.spread(),
         rows as f64 / theirs.best(),
-        theirs.spread(),
-        ours.best() / theirs.best()
     );
 }
 
-/// The same work on both sides in turn, and that both end with the same numbers.
-fn measured(
-    name: &str,
+/// What is measured: in each round a new tree is made ready, and its work alone is timed.
+struct Task<'a> {
+    name: String,
     rows: usize,
-    make: [&dyn Fn() -> Box<dyn Side>; 2],
-    ready: &dyn Fn(&mut dyn Side),
-    work: &dyn Fn(&mut dyn Side) -> Vec<usize>,
-) {
+    rounds: usize,
+    ready: &'a dyn Fn(&mut dyn Side),
+    work: &'a dyn Fn(usize, &mut dyn Side) -> Vec<usize>,
+}
+
+/// The same work on both sides in turn, and that both end with the same numbers.
+fn measured(make: [&dyn Fn() -> Box<dyn Side>; 2], task: Task) {
     let mut times = [Times::default(), Times::default()];
     for _ in 0..RUNS {
-        let mut ends = Vec::new();
+        let mut ends = [Vec::new(), Vec::new()];
         for side in 0..2 {
-            let mut tree = make[side]();
-            ready(tree.as_mut());
-            let mut found = Vec::new();
-            times[side]
-                .0
-                .push(seconds(|| found = black_box(work(tree.as_mut()))));
-            ends.push((found, tree.print()));
+            let mut spent = 0.0;
+            for round in 0..task.rounds {
+                let mut tree = make[side]();
+                (task.ready)(tree.as_mut());
+                let mut found = Vec::new();
+                spent += seconds(|| found = black_box((task.work)(round, tree.as_mut())));
+                ends[side].push((found, tree.print()));
+            }
+            times[side].0.push(spent);
         }
-        assert!(ends[0] == ends[1], "{name}: the two trees differ");
+        assert!(ends[0] == ends[1], "{}: the two trees differ", task.name);
     }
-    line(name, rows, &times[0], &times[1]);
+    line(&task.name, task.rows, &times[0], &times[1]);
 }
 
 fn batches(tree: &mut dyn Side, flat: &[f64]) {
-    for batch in flat.chunks(1000 * DIM) {
+    for batch in flat.chunks(BATCH * DIM) {
         tree.batch(batch);
     }
 }
@@ -100,41 +111,46 @@ where
     };
     let full = |tree: &mut dyn Side| batches(tree, &flat);
     let none = |_: &mut dyn Side| ();
+    let alone = |round: usize, t: &mut dyn Side| {
+        t.batch(&flat[round * BATCH * DIM..][..BATCH * DIM]);
+        Vec::new()
+    };
+    let stream = |_: usize, t: &mut dyn Side| {
+        batches(t, &flat);
+        Vec::new()
+    };
+    let single = |_: usize, t: &mut dyn Side| {
+        flat.chunks_exact(DIM).for_each(|row| t.insert(row));
+        Vec::new()
+    };
+    let route = |_: usize, t: &mut dyn Side| t.routes(&other);
+    let refit = |_: usize, t: &mut dyn Side| {
+        t.refit(&other);
+        Vec::new()
+    };
     for m in [256, 24] {
+        let task = |what: &str, rows, rounds, ready, work| Task {
+            name: format!("{name}, M {m}, {what}"),
+            rows,
+            rounds,
+            ready,
+            work,
+        };
         let make: [&dyn Fn() -> Box<dyn Side>; 2] = [&ours(m), &theirs(m)];
+        let cleared = STREAM / BATCH;
         measured(
-            &format!("{name}, M {m}, batches of 1,000"),
-            STREAM,
             make,
-            &none,
-            &|t| {
-                batches(t, &flat);
-                Vec::new()
-            },
+            task("a batch, arenas cleared", STREAM, cleared, &none, &alone),
+        );
+        measured(
+            make,
+            task("twenty batches on end", STREAM, 1, &none, &stream),
         );
         if m == 24 {
-            measured(
-                &format!("{name}, M {m}, single rows"),
-                STREAM,
-                make,
-                &none,
-                &|t| {
-                    flat.chunks_exact(DIM).for_each(|row| t.insert(row));
-                    Vec::new()
-                },
-            );
+            measured(make, task("single rows", STREAM, 1, &none, &single));
         }
-        measured(
-            &format!("{name}, M {m}, routing"),
-            OTHER,
-            make,
-            &full,
-            &|t| t.routes(&other),
-        );
-        measured(&format!("{name}, M {m}, refit"), OTHER, make, &full, &|t| {
-            t.refit(&other);
-            Vec::new()
-        });
+        measured(make, task("routing", OTHER, 1, &full, &route));
+        measured(make, task("refit", OTHER, 1, &full, &refit));
     }
 }
 
@@ -201,8 +217,8 @@ fn main() {
         }
         _ => panic!("usage: bench [insert M RUNS]"),
     }
-    println!("| what | ours, rows/s | slowest | Rust, rows/s | slowest | time, ours/Rust |");
-    println!("|---|---|---|---|---|---|");
+    println!("| what | ours, rows/s | Rust, rows/s | time, ours/Rust | over {RUNS} runs |");
+    println!("|---|---|---|---|---|");
     use Distance as D;
     let near = |f| settings(f, D::CentroidEuclidean, D::CentroidEuclidean);
     let wide = |f| settings(f, D::VarianceIncrease, D::Radius);

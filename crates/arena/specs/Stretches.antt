@@ -30,6 +30,10 @@ module _ {A : Type 0} where
   unfoldable pub putStretch : List A → ℕ → ℕ → List A → List A
   putStretch xs a k ys = take a xs ++ (ys ++ drop k (drop a xs))
 
+  -- what is lent of xs from its start to its end
+  pub whole : (xs : List A) → take (length xs - 0) xs ≡ xs
+  whole xs = take-all (length xs - 0) xs (omega arith)
+
   pub length-stretch : (xs : List A) (a k : ℕ) → a + k ≤ length xs → length (stretch xs a k) ≡ k
   unfolding stretch
   length-stretch xs a k h = simp (length-take, length-drop) (omega arith)

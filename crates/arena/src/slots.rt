@@ -44,7 +44,9 @@ pub fn to_row(s: Settings, floats: &[f64], i: usize, k: Distance, row: &[f64]) -
     requires { ⌜ SlotIn s i (length (now floats)) × (s .dim ≤ length (now row)) ⌝ }
     ensures { λ r. ⌜ r ≡ pointOf k (s .feature) (s .dim) (summaryAt s (now (floats .entry)) i) (now (row .entry)) ⌝ }
 {
-    slot::to_row(s, k, part(s, floats, i), row)
+    let w = s.slot_width();
+    let at = i * w;
+    slot::to_row(s, k, &floats[at..at + w], &row[0..])
 }
 
 // The distance k between slot i and a summary.
@@ -88,7 +90,7 @@ pub fn push(s: Settings, floats: &mut [f64], i: usize, row: &[f64])
 {
     let w = s.slot_width();
     let at = i * w;
-    slot::push(s, &mut floats[at..at + w], row);
+    slot::push(s, &mut floats[at..at + w], &row[0..]);
 }
 
 // The summary c, merged into slot i.

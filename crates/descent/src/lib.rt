@@ -47,14 +47,7 @@ pub fn nearest_child(
 }
 
 // From the root down to the leaf that an item belongs to.
-pub fn descend(
-    s: Settings,
-    n: Counters,
-    floats: &[f64],
-    links: &[u32],
-    item: Item,
-    x: &[f64],
-) -> usize
+fn go_down(s: Settings, n: Counters, floats: &[f64], links: &[u32], item: Item, x: &[f64]) -> usize
     requires { ⌜ Floats s n (length (now floats)) × Links s n (length (now links)) × Fits s item (now x) ⌝ }
     requires { ⌜ Sure s (treeOf s n (now floats) (now links)) ⌝ }
     ensures { λ r. ⌜ r ≡ leafFor (treeOf s n (now (floats .entry)) (now (links .entry))) (distanceTo s item (now (x .entry))) ⌝ }
@@ -70,4 +63,21 @@ pub fn descend(
         left -= 1;
     }
     i
+}
+
+// The same, with each slice lent anew: what is made here passes as numbers, and not through memory.
+pub fn descend(
+    s: Settings,
+    n: Counters,
+    floats: &[f64],
+    links: &[u32],
+    item: Item,
+    x: &[f64],
+) -> usize
+    requires { ⌜ Floats s n (length (now floats)) × Links s n (length (now links)) × Fits s item (now x) ⌝ }
+    requires { ⌜ Sure s (treeOf s n (now floats) (now links)) ⌝ }
+    ensures { λ r. ⌜ r ≡ leafFor (treeOf s n (now (floats .entry)) (now (links .entry))) (distanceTo s item (now (x .entry))) ⌝ }
+    ensures { λ r. ⌜ r < n .nodes ⌝ }
+{
+    go_down(s, n, &floats[0..], &links[0..], item, &x[0..])
 }

@@ -34,10 +34,10 @@ fn total(dim: usize, deviation: &[f64]) -> f64
     ensures { λ r. ⌜ r ≡ sumTo (at (now (deviation .entry))) dim ⌝ }
 {
     let mut sum = 0.0;
-    for i in 0..8 {
-        if i < dim {
-            sum = sum + deviation[i];
-        }
+    let mut i = 0;
+    while i < dim {
+        sum = sum + deviation[i];
+        i += 1;
     }
     sum
 }

@@ -7,10 +7,12 @@ ghost use Rattle.head.specs.Sizes.{entryCap, blockWidth};
 ghost use Rattle.head.specs.Counting.{countEntries};
 ghost use Rattle.rules.specs.Tree.{nodeAt};
 ghost use Rattle.rules.specs.Slices.{summaryIn, treeOf};
+ghost use Rattle.rules.specs.Split.{settled};
 ghost use Rattle.rules.specs.Insert.{begun, absorbs, placed, grown};
 ghost use Rattle.rules.specs.Reinsert.{replaced};
 ghost use Rattle.arena.specs.Slots.{Slot};
 ghost use Rattle.arena.specs.Trees.{AnyLinks, AnyFloats, Floats, Links};
+ghost use Rattle.split.specs.Rising.{Rising};
 ghost use Rattle.grow.specs.Places.{Place};
 ghost use Rattle.grow.specs.Room.{Growable, Placeable};
 use arena::entries;
@@ -25,6 +27,7 @@ use feature::Summary;
 use head::Counters;
 use head::Settings;
 use rules::Nearest;
+use split::fits;
 use split::split_up;
 
 // The summary c begins an entry, last in number and last in a leaf's list.
@@ -82,6 +85,20 @@ fn place(
     begin(s, n, floats, links, leaf, item::alone(s, Item::Row, row))
 }
 
+// Nodes over their caps split, from node i up; most often none is.
+fn settle(s: Settings, n: Counters, floats: &mut [f64], links: &mut [u32], i: usize) -> Counters
+    requires { ⌜ Floats s n (length (now floats)) × Links s n (length (now links)) ⌝ }
+    requires { ⌜ Rising s (n .nodes) n i (treeOf s n (now floats) (now links)) ⌝ }
+    ensures { λ r. ⌜ Floats s r (length (now (floats .entry))) × Links s r (length (now (links .entry))) ⌝ }
+    ensures { λ r. ⌜
+        treeOf s r (now (floats .exit)) (now (links .exit)) ≡ settled s i (treeOf s n (now (floats .entry)) (now (links .entry))) ⌝ }
+{
+    if fits(s, n, links, i) {
+        return n;
+    }
+    split_up(s, n, floats, links, i)
+}
+
 // A row into the tree.
 pub fn grow(
     s: Settings,
@@ -99,7 +116,7 @@ pub fn grow(
     let leaf = descend(s, n, floats, links, Item::Row, row);
     feed_path(s, n, floats, links, leaf, Item::Row, row);
     let m = place(s, n, floats, links, leaf, row);
-    split_up(s, m, floats, links, leaf)
+    settle(s, m, floats, links, leaf)
 }
 
 // The summary in a slot of its own as a new entry, nothing absorbed.

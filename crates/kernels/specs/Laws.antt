@@ -5,10 +5,10 @@ use mathlib.Core.Logic.{⊎-elim}
 use Prim.Native.Nat.{ℕ, zero, suc, _+_, _<_, _≤_, min}
 use native.Mathlib.Nat.{ne-of-lt, eq-or-lt-of-le}
 use native.Mathlib.Omega.{arith}
-use lib.ListN.{length, set, length-set, replicate}
+use lib.ListN.{length, set, length-set}
 use lib.Seq.{getD-set-same, getD-set-other}
 use lib.Ieee.{Float, nan}
-use Rattle.binary64.specs.Operators.{_⊕_, f0}
+use Rattle.binary64.specs.Operators.{_⊕_}
 use Rattle.kernels.specs.Channels.{at, sumTo, upTo}
 
 -- ---- lists
@@ -45,6 +45,11 @@ unfolding sumTo
 sum-same f g zero h = refl
 sum-same f g (suc i) h = ap₂ (λ a b. a ⊕ b) (sum-same f g i (λ k p. h k (omega arith))) (h i (omega arith))
 
+-- one channel more
+pub sum-next : (f : ℕ → Float) (i : ℕ) → sumTo f (i + 1) ≡ sumTo f i ⊕ f i
+unfolding sumTo
+sum-next f i = let e : i + 1 ≡ suc i = omega arith in rw e
+
 -- ---- a loop whose turn i acts where i is below n: its state after i turns is that of `min i n`
 
 below : (i n : ℕ) → i < n → (min i n ≡ i) × (min (i + 1) n ≡ suc i)
@@ -60,26 +65,9 @@ upTo-turn f n i l h = let (p, q) = below i n h in rw (p, q)
 pub upTo-pass : (f : ℕ → Float) (n i : ℕ) (l : List Float) → n ≤ i → upTo f (min (i + 1) n) l ≡ upTo f (min i n) l
 upTo-pass f n i l h = ap (λ k. upTo f k l) (past i n h)
 
-pub sum-turn : (f : ℕ → Float) (n i : ℕ) → i < n → sumTo f (min (i + 1) n) ≡ sumTo f (min i n) ⊕ f i
-unfolding sumTo
-sum-turn f n i h = let (p, q) = below i n h in rw (p, q)
-
-pub sum-pass : (f : ℕ → Float) (n i : ℕ) → n ≤ i → sumTo f (min (i + 1) n) ≡ sumTo f (min i n)
-sum-pass f n i h = ap (sumTo f) (past i n h)
-
 -- the loop begins at nothing and ends at n
 pub min-start : (n : ℕ) → min 0 n ≡ 0
 min-start n = omega arith
 
 pub min-end : (i n : ℕ) → n ≤ i → min i n ≡ n
 min-end i n h = omega arith
-
--- ---- copies
-
--- a sum over copies of the first n channels is the sum over what was copied
-pub sum-copied : (r : Float → Float → Float) (n : ℕ) (a b x y : List Float) → n ≤ 8 → x ≡ upTo (at a) n (replicate 8 f0) → y ≡ upTo (at b) n (replicate 8 f0)
-    → sumTo (λ i. r (at x i) (at y i)) n ≡ sumTo (λ i. r (at a i) (at b i)) n
-sum-copied r n a b x y h p q =
-    sum-same _ _ n λ k l.
-    ap₂ r (ap (λ z. at z k) p ∙ upTo-below (at a) n (replicate 8 f0) k h l)
-    (ap (λ z. at z k) q ∙ upTo-below (at b) n (replicate 8 f0) k h l)

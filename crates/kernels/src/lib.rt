@@ -24,14 +24,12 @@ pub fn sq_euclidean(dim: usize, a: &[f64], b: &[f64]) -> f64
     requires { ⌜ (dim ≤ 8) × (dim ≤ length (now a)) × (dim ≤ length (now b)) ⌝ }
     ensures { λ r. ⌜ r ≡ sumTo (squareAt (now (a .entry)) (now (b .entry))) dim ⌝ }
 {
-    let x = copied(dim, a);
-    let y = copied(dim, b);
     let mut sum = 0.0;
-    for i in 0..8 {
-        if i < dim {
-            let d = x[i] - y[i];
-            sum = sum + d * d;
-        }
+    let mut i = 0;
+    while i < dim {
+        let d = a[i] - b[i];
+        sum = sum + d * d;
+        i += 1;
     }
     sum
 }
@@ -41,13 +39,11 @@ pub fn manhattan(dim: usize, a: &[f64], b: &[f64]) -> f64
     requires { ⌜ (dim ≤ 8) × (dim ≤ length (now a)) × (dim ≤ length (now b)) ⌝ }
     ensures { λ r. ⌜ r ≡ sumTo (sizeAt (now (a .entry)) (now (b .entry))) dim ⌝ }
 {
-    let x = copied(dim, a);
-    let y = copied(dim, b);
     let mut sum = 0.0;
-    for i in 0..8 {
-        if i < dim {
-            sum = sum + binary64::abs(x[i] - y[i]);
-        }
+    let mut i = 0;
+    while i < dim {
+        sum = sum + binary64::abs(a[i] - b[i]);
+        i += 1;
     }
     sum
 }

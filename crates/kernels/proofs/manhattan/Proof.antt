@@ -1,46 +1,29 @@
--- `kernels::manhattan` meets its contract: after i turns the sum is that over the copies' first `min i dim` channels, and a copy has the slice's numbers.
-use Prim.Native.Nat.{_-_, _≤_, min}
-use mathlib.Core.Path.{_≡_, refl, sym, _∙_}
+-- `kernels::manhattan` meets its contract: after i turns the sum is that over the first i channels.
+use Prim.Native.Nat.{_-_, _≤_}
+use mathlib.Core.Path.{_≡_, refl, ap, sym, _∙_}
 use native.Mathlib.Omega.{arith}
 use borrow.Author.Needs.{needs}
-use mathlib.Core.Logic.{inl, inr}
-use Rattle.binary64.specs.Operators.{_⊖_}
-use Rattle.binary64.specs.Values.{absolute}
 use Rattle.kernels.specs.Channels.{sumTo, sizeAt}
-use Rattle.kernels.specs.Laws.{sum-turn, sum-pass, sum-copied, min-start, min-end}
+use Rattle.kernels.specs.Laws.{sum-next}
 use Rattle.kernels.proofs.manhattan.Statement.{statement}
 use Rattle.kernels.proofs.manhattan.Tie as tie
 
 abbrev Inv-loop : tie.InvT-loop
-Inv-loop dim a b x y sum₀ i₀ sum i = (i ≤ 8) × (sum ≡ sumTo (sizeAt x y) (min i dim))
+Inv-loop dim a b sum₀ i₀ sum i = (i ≤ dim) × (sum ≡ sumTo (sizeAt a b) i)
 
 abbrev μ-loop : tie.MeasureT-loop
-μ-loop dim a b x y sum₀ i₀ sum i = 8 - i
-
-abbrev start : tie.After-loop Inv-loop μ-loop → tie.Start Inv-loop μ-loop
-start c = c .before .before .before .before .before .before
+μ-loop dim a b sum₀ i₀ sum i = dim - i
 
 loop-holds : tie.Need-loop-holds Inv-loop μ-loop
-loop-holds c = (search needs, rw min-start (unfold sumTo in refl))
+loop-holds c = (search needs, unfold sumTo in refl)
 
 loop-again : tie.Need-loop-again Inv-loop μ-loop
-loop-again c = (
-  omega arith,
-  elim (c .if1 .came) [
-    | inl w ↦ w .2 ∙ rw (c .before .before .loop .inv .1, w .1 .ensures) (sym (sum-turn _ _ _ (w .0 .taken)))
-    | inr w ↦ w .1 ∙ c .before .before .loop .inv .1 ∙ sym (sum-pass _ _ _ (w .0 .left))
-  ],
-)
+loop-again c = (omega arith, rw (c .before .before .before .before .loop .inv .1, c .abs .ensures) (sym (sum-next _ _)))
 
 returns : tie.Need-returns Inv-loop μ-loop
-returns c =
-    c .before .loop .inv .1
-    ∙ rw (min-end (c .before .loop .i) (start c .args .dim) (omega arith))
-    (sum-copied (λ a b. absolute (a ⊖ b)) (start c .args .dim) (start c .args .a .now) (start c .args .b .now) _ _ (omega arith)
-    (c .before .before .before .copied .ensures) (c .before .before .copied2 .ensures))
+returns c = c .before .loop .inv .1 ∙ ap (sumTo _) (omega arith)
 
 pub manhattan-spec : {M : Type 1} → statement M
 manhattan-spec =
     tie.close
-    (tie.spec Inv-loop μ-loop (λ c κs. search needs) (λ c κs. search needs) loop-holds (λ c. search needs) (λ c. search needs) (λ c. search needs)
-    (λ c. search needs) (λ c κs. search needs) (λ c. search needs) (λ c. search needs) loop-again returns)
+    (tie.spec Inv-loop μ-loop loop-holds (λ c. search needs) (λ c. search needs) (λ c. search needs) (λ c. search needs) (λ c κs. search needs) (λ c. search needs) (λ c. search needs) loop-again returns)

@@ -11,7 +11,7 @@ use Rattle.head.specs.Sizes.{nodeCap, entryCap, slotWidth, blockWidth, floatsNe
 use Rattle.feature.specs.declared.Summary.{Summary}
 use Rattle.rules.specs.Tree.{Node, Tree}
 use Rattle.rules.specs.Slices.{summaryIn, nodeIn, slotAt, blockAt, treeOf}
-use Rattle.arena.specs.Stretches.{room, take-stretch}
+use Rattle.stretch.specs.Stretches.{room, take-stretch}
 use Rattle.arena.specs.Tables.{table-same}
 use Rattle.arena.specs.Trees.{Floats, Links}
 

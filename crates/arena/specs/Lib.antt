@@ -1,8 +1,4 @@
--- Laws of slots and blocks in the lent slices.
-pub mod Stretches
-pub mod Slots
-pub mod Pushes
-pub mod Blocks
+-- Laws of the numbered slots and blocks in the lent slices.
 pub mod Tables
 pub mod Numbered
 pub mod Trees
@@ -10,5 +6,4 @@ pub mod Cut
 pub mod Writes
 pub mod Changes
 pub mod Pieces
-pub mod Cleared
 pub mod Tidied

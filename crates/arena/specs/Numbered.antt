@@ -12,9 +12,9 @@ use Rattle.head.specs.Limits.{Sized}
 use Rattle.head.specs.Sizes.{slotWidth, blockWidth}
 use Rattle.rules.specs.Tree.{Node}
 use Rattle.rules.specs.Slices.{stretch, summaryIn, nodeIn, slotAt, blockAt}
-use Rattle.arena.specs.Stretches.{putStretch, length-stretch, stretch-same, stretch-other}
-use Rattle.arena.specs.Slots.{Slot}
-use Rattle.arena.specs.Blocks.{Block, block}
+use Rattle.stretch.specs.Stretches.{putStretch, length-stretch, stretch-same, stretch-other}
+use Rattle.stretch.specs.Slots.{Slot}
+use Rattle.stretch.specs.Blocks.{Block, block}
 
 -- what the code cuts out by a width k that it has worked out
 abbrev pub cut : {A : Type 0} → List A → ℕ → ℕ → List A

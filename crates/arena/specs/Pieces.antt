@@ -9,7 +9,7 @@ use lib.ListN.{length, take, drop, replicate, length-append, length-take, length
 use lib.Seq.{drop-at, drop-drop}
 use Rattle.rules.specs.Lists.{joined, table}
 use Rattle.rules.specs.Slices.{stretch, filledTo}
-use Rattle.arena.specs.Stretches.{putStretch, put-past, put-rest, length-stretch}
+use Rattle.stretch.specs.Stretches.{putStretch, put-past, put-rest, length-stretch}
 use Rattle.arena.specs.Tables.{table-more, joined-snoc}
 use Rattle.arena.specs.Numbered.{cut, putCut, cut-is, put-is}
 

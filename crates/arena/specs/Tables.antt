@@ -9,7 +9,7 @@ use native.Mathlib.Omega.{arith}
 use lib.ListN.{length}
 use Rattle.rules.specs.Lists.{changeAt, snoc, joined, table}
 use Rattle.rules.specs.ListLaws.{length-table}
-use Rattle.arena.specs.Stretches.{append-none}
+use Rattle.stretch.specs.Stretches.{append-none}
 
 module _ {A : Type 0} where
   pub table-same : (f g : ℕ → A) (n : ℕ) → ((i : ℕ) → i < n → f i ≡ g i) → table f n ≡ table g n

@@ -11,15 +11,29 @@ use Rattle.binary64.specs.Operators.{f0}
 use Rattle.feature.specs.declared.Summary.{Summary}
 use Rattle.head.specs.declared.Settings.{Settings}
 use Rattle.head.specs.declared.Counters.{Counters}
+use Rattle.head.specs.Limits.{Sized}
 use Rattle.head.specs.Sizes.{nodeCap, entryCap, slotWidth, blockWidth, floatsNeeded, linksNeeded}
 use Rattle.rules.specs.Lists.{joined}
 use Rattle.rules.specs.Tree.{Node}
 use Rattle.rules.specs.Slices.{stretch, filledTo, summaryIn, summaryOut, nodeIn, blockOut, slotAt, blockAt, treeOf, floatsOf, linksOf}
-use Rattle.arena.specs.Stretches.{putStretch, put-rest, room, take-stretch}
+use Rattle.rules.specs.Stored.{out-long, block-long}
+use Rattle.stretch.specs.Slots.{in-shaped}
+use Rattle.stretch.specs.Blocks.{block, list-in}
+use Rattle.stretch.specs.Tidy.{tidySlot, tidyBlock}
+use Rattle.stretch.specs.Stretches.{putStretch, put-rest, room, take-stretch}
 use Rattle.arena.specs.Tables.{table-same, map-table}
-use Rattle.arena.specs.Pieces.{piecesOf}
-use Rattle.arena.specs.Cleared.{tidySlot, tidyBlock}
+use Rattle.arena.specs.Pieces.{piecesOf, Keeps}
 use Rattle.arena.specs.Trees.{Floats}
+
+-- ---- a slot and a block stay as long as they are
+
+pub slot-keeps : (s : Settings) → Sized s → Keeps (tidySlot s) (slotWidth s)
+unfolding tidySlot
+slot-keeps s z p e = out-long s z (summaryIn s p) (in-shaped s z p)
+
+pub block-keeps : (s : Settings) → Sized s → Keeps (tidyBlock s) (blockWidth s)
+unfolding tidyBlock
+block-keeps s z b e = let k = block s b z e in block-long s z (nodeIn s [] b) (omega (arith, list-in s b k [], k .some))
 
 -- ---- links
 

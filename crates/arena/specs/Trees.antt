@@ -19,8 +19,8 @@ use Rattle.rules.specs.Lists.{changeAt, snoc}
 use Rattle.rules.specs.Tree.{Node, Tree, blankNode, nodeAt, entryAt, child, withNodes, withEntries}
 use Rattle.rules.specs.Slices.{summaryIn, nodeIn, slotAt, blockAt, treeOf}
 use Rattle.rules.specs.ListLaws.{length-table, table-at}
-use Rattle.arena.specs.Stretches.{room}
-use Rattle.arena.specs.Slots.{in-shaped}
+use Rattle.stretch.specs.Stretches.{room}
+use Rattle.stretch.specs.Slots.{in-shaped}
 use Rattle.arena.specs.Numbered.{SlotIn, BlockIn, summaryAt}
 
 -- ---- what the slices have to be: sized settings, counts within their caps, and room for all slots in n floats or n links

@@ -12,7 +12,7 @@ use Rattle.head.specs.Counting.{countNodes, countEntries, rootAt, countMerged}
 use Rattle.rules.specs.Lists.{snoc, table}
 use Rattle.rules.specs.Tree.{Node, withNodes, withEntries, withRoot, withMerged, summed}
 use Rattle.rules.specs.Slices.{summaryIn, nodeIn, slotAt, blockAt, treeOf}
-use Rattle.arena.specs.Blocks.{nodeOf, relinked}
+use Rattle.stretch.specs.Blocks.{nodeOf, relinked}
 use Rattle.arena.specs.Tables.{table-same, table-change, table-more}
 use Rattle.arena.specs.Numbered.{summaryAt, Changed, Relinked}
 use Rattle.arena.specs.Trees.{Floats, onNode, onEntry, withNode, withEntry}

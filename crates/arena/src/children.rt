@@ -1,6 +1,5 @@
 // What a number of a list names, an entry in a leaf and a node elsewhere, said of the tree that the slices hold.
 ghost use mathlib.Core.Path.{_≡_};
-ghost use mathlib.Core.Bool.{Bool};
 ghost use Prim.Native.Nat.{_≤_};
 ghost use lib.ListN.{length};
 ghost use Rattle.distance.specs.Distances.{betweenOf};

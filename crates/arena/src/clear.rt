@@ -7,12 +7,12 @@ ghost use Rattle.head.specs.Limits.{Sized};
 ghost use Rattle.head.specs.Sizes.{slotWidth, floatsNeeded, linksNeeded};
 ghost use Rattle.rules.specs.Slices.{filledTo, floatsOf, linksOf};
 ghost use Rattle.arena.specs.Pieces.{piecesOf};
-ghost use Rattle.arena.specs.Cleared.{tidySlot};
+ghost use Rattle.stretch.specs.Tidy.{tidySlot};
 ghost use Rattle.arena.specs.Trees.{AnyLinks, AnyFloats, Floats, Links};
-use crate::block;
-use crate::slot;
 use head::Counters;
 use head::Settings;
+use stretch::block;
+use stretch::slot;
 
 // The first k slots of p without what their feature does not keep, and 0 behind them.
 pub fn slots(s: Settings, k: usize, p: &mut [f64])

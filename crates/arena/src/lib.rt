@@ -1,9 +1,7 @@
 // The tree in the lent slices: the one place that knows where a node or an entry stands.
-pub mod block;
 pub mod children;
 pub mod clear;
 pub mod entries;
 pub mod links;
 pub mod nodes;
-pub mod slot;
 pub mod slots;

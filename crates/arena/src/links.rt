@@ -1,18 +1,17 @@
 // The links of the tree's nodes, said of the tree that the slices hold.
 ghost use mathlib.Core.Path.{_≡_};
-ghost use mathlib.Core.Bool.{Bool};
 ghost use Prim.Native.Nat.{_+_, _≤_, _<_};
 ghost use lib.ListN.{length, getD, take};
 ghost use Rattle.head.specs.Sizes.{blockWidth};
 ghost use Rattle.rules.specs.Tree.{nodeAt, adding, listing, under};
 ghost use Rattle.rules.specs.Slices.{blockAt, noParent};
-ghost use Rattle.arena.specs.Blocks.{parentOf, ParentFits, relinked};
+ghost use Rattle.stretch.specs.Blocks.{parentOf, ParentFits, relinked};
 ghost use Rattle.arena.specs.Numbered.{BlockIn, Relinked};
 ghost use Rattle.arena.specs.Trees.{AnyFloats, LinksTo, Links, onNode};
-use crate::block;
-use crate::block::Parent;
 use head::Counters;
 use head::Settings;
+use stretch::block;
+use stretch::block::Parent;
 
 // The links of block i.
 fn part(s: Settings, links: &[u32], i: usize) -> &[u32]

@@ -1,6 +1,5 @@
 // The summaries of the tree's nodes, said of the tree that the slices hold.
 ghost use mathlib.Core.Path.{_≡_};
-ghost use mathlib.Core.Bool.{Bool};
 ghost use Prim.Native.Nat.{_+_, _≤_, _<_};
 ghost use lib.ListN.{length, take};
 ghost use Rattle.feature.specs.Shape.{Shaped};
@@ -9,16 +8,16 @@ ghost use Rattle.head.specs.Sizes.{nodeCap, blockWidth};
 ghost use Rattle.head.specs.Counting.{countNodes};
 ghost use Rattle.rules.specs.Tree.{push, merge, nodeAt, summed};
 ghost use Rattle.rules.specs.Slices.{summaryIn, treeOf};
-ghost use Rattle.arena.specs.Blocks.{parentOf, ParentFits, nodeOf};
-ghost use Rattle.arena.specs.Slots.{Slot};
+ghost use Rattle.stretch.specs.Blocks.{parentOf, ParentFits, nodeOf};
+ghost use Rattle.stretch.specs.Slots.{Slot};
 ghost use Rattle.arena.specs.Trees.{AnyLinks, FloatsTo, Floats, Links, onNode, withNode};
-use crate::block::Parent;
 use crate::links;
 use crate::slots;
 use distance::Distance;
 use feature::Summary;
 use head::Counters;
 use head::Settings;
+use stretch::block::Parent;
 
 // The summary of node i.
 pub fn summary(s: Settings, n: Counters, floats: &[f64], i: usize) -> Summary

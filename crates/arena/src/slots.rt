@@ -6,12 +6,12 @@ ghost use Rattle.feature.specs.Shape.{Shaped};
 ghost use Rattle.distance.specs.Distances.{pointOf, betweenOf};
 ghost use Rattle.rules.specs.Tree.{push, merge};
 ghost use Rattle.rules.specs.Slices.{slotAt, summaryIn};
-ghost use Rattle.arena.specs.Slots.{Slot};
+ghost use Rattle.stretch.specs.Slots.{Slot};
 ghost use Rattle.arena.specs.Numbered.{SlotIn, summaryAt, Changed};
-use crate::slot;
 use distance::Distance;
 use feature::Summary;
 use head::Settings;
+use stretch::slot;
 
 // The floats of slot i.
 fn part(s: Settings, floats: &[f64], i: usize) -> &[f64]

@@ -9,7 +9,7 @@ use Rattle.feature.specs.declared.Summary.{Summary}
 use Rattle.head.specs.declared.Settings.{Settings}
 use Rattle.rules.specs.Tree.{Tree, push, merge, nodeAt, distTo, distBetween}
 use Rattle.rules.specs.Slices.{summaryIn}
-use Rattle.arena.specs.Slots as A
+use Rattle.stretch.specs.Slots as A
 use Rattle.descent.specs.declared.item.Item.{Item}
 use Rattle.descent.specs.declared.item.Item.the-variants.{Row, Slot}
 

@@ -7,10 +7,10 @@ ghost use Rattle.rules.specs.Tree.{nodeAt, summed};
 ghost use Rattle.arena.specs.Trees.{AnyLinks, FloatsTo, Floats, onNode};
 ghost use Rattle.descent.specs.Items.{Fits, distanceTo, taking, alone};
 use arena::nodes;
-use arena::slot;
 use feature::Summary;
 use head::Counters;
 use head::Settings;
+use stretch::slot;
 
 pub enum Item {
     Row,

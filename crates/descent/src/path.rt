@@ -9,10 +9,10 @@ ghost use Rattle.laws.specs.ForCode.{Sure};
 ghost use Rattle.descent.specs.Items.{Fits, taking};
 use crate::item;
 use crate::item::Item;
-use arena::block::Parent;
 use arena::links;
 use head::Counters;
 use head::Settings;
+use stretch::block::Parent;
 
 // An item goes into every node from a leaf up to the root.
 pub fn feed_path(

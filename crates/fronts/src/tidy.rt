@@ -2,11 +2,11 @@
 ghost use lib.ListN.{length};
 ghost use Rattle.rules.specs.Slices.{treeOf};
 ghost use Rattle.fronts.specs.Fronts.{TreeFronts, Fronts, TreeLeft, AllLeft};
-use arena::block;
 use arena::clear;
-use arena::slot;
 use head::Counters;
 use head::Settings;
+use stretch::block;
+use stretch::slot;
 
 // The tree's own slices.
 pub fn tidy(s: Settings, n: Counters, floats: &mut [f64], links: &mut [u32])

@@ -10,14 +10,13 @@ ghost use Rattle.rules.specs.Slices.{summaryIn, treeOf};
 ghost use Rattle.rules.specs.Split.{settled};
 ghost use Rattle.rules.specs.Insert.{begun, absorbs, placed, grown};
 ghost use Rattle.rules.specs.Reinsert.{replaced};
-ghost use Rattle.arena.specs.Slots.{Slot};
+ghost use Rattle.stretch.specs.Slots.{Slot};
 ghost use Rattle.arena.specs.Trees.{AnyLinks, AnyFloats, Floats, Links};
 ghost use Rattle.split.specs.Rising.{Rising};
 ghost use Rattle.grow.specs.Places.{Place};
 ghost use Rattle.grow.specs.Room.{Growable, Placeable};
 use arena::entries;
 use arena::links;
-use arena::slot;
 use descent::descend;
 use descent::item;
 use descent::item::Item;
@@ -29,6 +28,7 @@ use head::Settings;
 use rules::Nearest;
 use split::fits;
 use split::split_up;
+use stretch::slot;
 
 // The summary c begins an entry, last in number and last in a leaf's list.
 pub fn begin(

@@ -19,9 +19,9 @@ use Rattle.rules.specs.Rebuild.{numberIf, keepNumbers, pruned, dropped}
 use Rattle.rules.specs.Slices.{nodeIn, slotAt, blockAt, treeOf}
 use Rattle.laws.specs.ForCode.{Framed}
 use Rattle.arena.specs.Trees.{AnyFloats, FloatsTo, LinksTo, Links, ChildIn, ChildrenIn, onNode, node-at, node-block, count-nodes}
-use Rattle.arena.specs.Blocks.{list-in}
+use Rattle.stretch.specs.Blocks.{list-in}
 use Rattle.arena.specs.Numbered.{block-at}
-use Rattle.arena.specs.Stretches.{append-none}
+use Rattle.stretch.specs.Stretches.{append-none}
 use Rattle.listed.specs.Framed.{frame-children}
 use Rattle.merging.specs.Numbering.{Numbered, numberIn, numberOf, number-none, number-some}
 

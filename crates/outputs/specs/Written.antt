@@ -17,7 +17,7 @@ use Rattle.rules.specs.ListLaws.{map-at, table-is, rows-count, rows-at}
 use Rattle.rules.specs.Tree.{entryAt}
 use Rattle.rules.specs.Slices.{treeOf}
 use Rattle.rules.specs.Calls.{fronted}
-use Rattle.arena.specs.Stretches.{putStretch, put-past, copiedTo}
+use Rattle.stretch.specs.Stretches.{putStretch, put-past, copiedTo}
 use Rattle.arena.specs.Tables.{table-more, joined-snoc}
 use Rattle.arena.specs.Trees.{count-entries}
 use Rattle.rows.specs.Rows.{rowOf}

@@ -17,7 +17,7 @@ use Rattle.rules.specs.Tree.{Tree, push, withEntries}
 use Rattle.rules.specs.Slices.{treeOf}
 use Rattle.rules.specs.Refit.{route, poured, reaccumulated}
 use Rattle.arena.specs.Numbered.{summaryAt, Changed}
-use Rattle.arena.specs.Stretches.{append-none}
+use Rattle.stretch.specs.Stretches.{append-none}
 use Rattle.arena.specs.Tables.{table-change}
 use Rattle.arena.specs.Trees.{FloatsTo, onEntry, count-entries}
 use Rattle.rows.specs.Rows.{rowOf, rowsFrom, rows-all, rows-next, rows-none}

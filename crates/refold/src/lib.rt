@@ -12,10 +12,10 @@ ghost use Rattle.arena.specs.Trees.{Floats, Links};
 ghost use Rattle.laws.specs.ForCode.{Standing};
 ghost use Rattle.refold.specs.Refolding.{Filled};
 use crate::fold::refold_node;
-use arena::block::Parent;
 use arena::links;
 use head::Counters;
 use head::Settings;
+use stretch::block::Parent;
 
 // Every node made anew, from the last in preorder back to the root.
 pub fn refold(s: Settings, n: Counters, floats: &mut [f64], links: &[u32], scratch: &mut [f64])

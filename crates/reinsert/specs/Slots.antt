@@ -14,7 +14,7 @@ use Rattle.head.specs.Sizes.{entryCap, slotWidth}
 use Rattle.rules.specs.Lists.{snoc, table}
 use Rattle.rules.specs.ListLaws.{length-table}
 use Rattle.arena.specs.Numbered.{SlotIn, summaryAt, Changed}
-use Rattle.arena.specs.Stretches.{room, append-none}
+use Rattle.stretch.specs.Stretches.{room, append-none}
 use Rattle.arena.specs.Tables.{table-same, table-more}
 
 -- the first k summaries

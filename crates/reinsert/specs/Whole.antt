@@ -25,7 +25,7 @@ use Rattle.laws.specs.Invariant.Sound.{entryWeight, caps-of}
 use Rattle.laws.specs.Inserting.Grown.{Counted}
 use Rattle.laws.specs.Rebuilding.Reinsert.{list-rows, list-total, list-length}
 use Rattle.laws.specs.ForCode.{Standing}
-use Rattle.arena.specs.Blocks.{relinked, nodeOf}
+use Rattle.stretch.specs.Blocks.{relinked, nodeOf}
 use Rattle.arena.specs.Numbered.{Relinked}
 use Rattle.arena.specs.Trees.{Floats, Links, onNode}
 use Rattle.arena.specs.Writes.{node-relinked}

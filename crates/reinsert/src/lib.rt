@@ -15,12 +15,12 @@ ghost use Rattle.reinsert.specs.Slots.{slotsIn};
 ghost use Rattle.reinsert.specs.Replace.{Replaceable};
 ghost use Rattle.reinsert.specs.Whole.{clearedCounts, Reinsertable};
 use crate::collect::collect;
-use arena::block::Parent;
 use arena::links;
 use arena::nodes;
 use grow::replace;
 use head::Counters;
 use head::Settings;
+use stretch::block::Parent;
 
 // An empty tree with the counters kept.
 pub fn clear(s: Settings, n: Counters, floats: &mut [f64], links: &mut [u32]) -> Counters

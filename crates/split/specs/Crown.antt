@@ -13,7 +13,7 @@ use Rattle.head.specs.Limits.{Sized}
 use Rattle.head.specs.Sizes.{blockWidth}
 use Rattle.rules.specs.Tree.{Tree, withNodes, withRoot, under}
 use Rattle.rules.specs.Split.{gathered, crowned}
-use Rattle.arena.specs.Blocks.{nodeOf}
+use Rattle.stretch.specs.Blocks.{nodeOf}
 use Rattle.arena.specs.Trees.{ChildIn, ChildrenIn, onNode, withNode}
 
 pub pair-in : (n : Counters) (i j : ℕ) → i < n .nodes → j < n .nodes → ChildrenIn n false (i ∷ j ∷ [])

@@ -15,9 +15,9 @@ use Rattle.rules.specs.Lists.{changeAt, snoc}
 use Rattle.rules.specs.Tree.{Node, Tree, blankNode, nodeAt, withNodes, summed, listing, under}
 use Rattle.rules.specs.Slices.{noParent}
 use Rattle.rules.specs.Split.{gathered, adopted, half, parted, split}
-use Rattle.arena.specs.declared.block.Parent.{Parent}
-use Rattle.arena.specs.declared.block.Parent.the-variants as P
-use Rattle.arena.specs.Blocks.{parentOf, ParentFits, nodeOf}
+use Rattle.stretch.specs.declared.block.Parent.{Parent}
+use Rattle.stretch.specs.declared.block.Parent.the-variants as P
+use Rattle.stretch.specs.Blocks.{parentOf, ParentFits, nodeOf}
 use Rattle.arena.specs.Trees.{ChildrenIn, onNode, withNode}
 use Rattle.split.specs.declared.halves.Halves.{Halves}
 use Rattle.split.specs.Halves.{Grouped}

@@ -15,9 +15,9 @@ use Rattle.head.specs.Counting.{countNodes, rootAt}
 use Rattle.rules.specs.Tree.{Tree, nodeAt, cap, adding}
 use Rattle.rules.specs.Slices.{nodeIn, treeOf}
 use Rattle.rules.specs.Split.{split, crowned, fitting, splitNext, splitIf, splitUp, settled}
-use Rattle.arena.specs.declared.block.Parent.{Parent}
-use Rattle.arena.specs.declared.block.Parent.the-variants as P
-use Rattle.arena.specs.Blocks.{parentOf}
+use Rattle.stretch.specs.declared.block.Parent.{Parent}
+use Rattle.stretch.specs.declared.block.Parent.the-variants as P
+use Rattle.stretch.specs.Blocks.{parentOf}
 use Rattle.arena.specs.Trees.{Floats, Links, AnyFloats, floats-nodes, links-nodes, floats-same, links-same, onNode, part-at}
 use Rattle.split.specs.Rising.{Rising, nextUp}
 

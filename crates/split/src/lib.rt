@@ -18,11 +18,11 @@ use crate::gather::gather;
 use crate::halves::groups;
 use crate::part::adopt;
 use crate::part::part;
-use arena::block::Parent;
 use arena::links;
 use arena::nodes;
 use head::Counters;
 use head::Settings;
+use stretch::block::Parent;
 
 // Node i becomes two: it keeps the first half of its list, the second is a new node under the same parent.
 pub fn split(s: Settings, n: Counters, floats: &mut [f64], links: &mut [u32], i: usize) -> Counters

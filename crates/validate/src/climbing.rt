@@ -7,14 +7,14 @@ ghost use lib.ListN.{length};
 ghost use Rattle.rules.specs.Lists.{every, occurs};
 ghost use Rattle.rules.specs.Tree.{nodeAt};
 ghost use Rattle.rules.specs.Check.{names, ownList};
-ghost use Rattle.arena.specs.Blocks.{parentOf};
+ghost use Rattle.stretch.specs.Blocks.{parentOf};
 ghost use Rattle.arena.specs.Trees.{AnyFloats, Links};
 ghost use Rattle.validate.specs.Climbing.{hangsFrom, hangs, stepsUp, depth, meetsRoot, meeting};
 ghost use Rattle.validate.specs.Lent.{Listed, Inner};
-use arena::block::Parent;
 use arena::links;
 use head::Counters;
 use head::Settings;
+use stretch::block::Parent;
 
 // How often c stands in the list of node i.
 fn occurs(s: Settings, n: Counters, links: &[u32], i: usize, c: usize) -> usize

@@ -2,7 +2,7 @@
 pub mod adding;
 mod climbing;
 mod forking;
-mod listed;
+mod lists;
 mod once;
 mod rooted;
 mod seen;
@@ -43,13 +43,13 @@ pub fn validate(s: Settings, n: Counters, floats: &[f64], links: &[u32]) -> Verd
     if !crate::rooted::rooted(s, n, links) {
         return Verdict::Fails(2);
     }
-    if !crate::listed::lists_fit(s, n, links) {
+    if !crate::lists::lists_fit(s, n, links) {
         return Verdict::Fails(3);
     }
     if !hung(s, n, links) {
         return Verdict::Fails(4);
     }
-    if !crate::listed::filled(s, n, links) {
+    if !crate::lists::filled(s, n, links) {
         return Verdict::Fails(5);
     }
     if !crate::forking::forking(s, n, links) {

@@ -8,10 +8,10 @@ ghost use Rattle.head.specs.Limits.{Sized};
 ghost use Rattle.rules.specs.Check.{sized, rooted};
 ghost use Rattle.rules.specs.Slices.{treeOf};
 ghost use Rattle.arena.specs.Trees.{AnyFloats, Links};
-use arena::block::Parent;
 use arena::links;
 use head::Counters;
 use head::Settings;
+use stretch::block::Parent;
 
 // Condition 1: node count 1 to N, entry count 0 to M.
 pub fn sized(s: Settings, n: Counters) -> bool

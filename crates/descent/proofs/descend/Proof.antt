@@ -1,6 +1,6 @@
 -- `descent::descend` meets its contract: each slice is lent from its start to its end.
 use borrow.Author.Needs.{needs}
-use Rattle.arena.specs.Stretches.{whole}
+use Rattle.stretch.specs.Stretches.{whole}
 use Rattle.descent.proofs.descend.Statement.{statement}
 use Rattle.descent.proofs.descend.Tie as tie
 

@@ -11,7 +11,7 @@ use Rattle.rules.specs.Tree.{Tree, nodeAt}
 use Rattle.rules.specs.Slices.{treeOf}
 use Rattle.rules.specs.Refold.{preorder, refoldAll, refolded}
 use Rattle.laws.specs.Ownership.Owned.{get-occurs}
-use Rattle.arena.specs.Blocks.{a-parent, no-parent}
+use Rattle.stretch.specs.Blocks.{a-parent, no-parent}
 use Rattle.arena.specs.Trees.{count-nodes}
 use Rattle.listed.specs.Framed.{root-in}
 use Rattle.refold.specs.Walk.{lastUnder, Backward, walk-back}

@@ -7,7 +7,7 @@ use Rattle.head.specs.Sizes.{blockWidth, nodes-some}
 use Rattle.head.specs.Counting.{countEntries, rootAt}
 use Rattle.rules.specs.Tree.{summed}
 use Rattle.rules.specs.Slices.{treeOf}
-use Rattle.arena.specs.Blocks.{parentOf, ParentFits}
+use Rattle.stretch.specs.Blocks.{parentOf, ParentFits}
 use Rattle.arena.specs.Trees.{block-in, onNode}
 use Rattle.reinsert.specs.Whole.{clearedCounts, floats-cleared, root-cleared, cleared-is}
 use Rattle.reinsert.proofs.clear.Statement.{statement}

@@ -5,7 +5,7 @@ use native.Mathlib.Omega.{arith}
 use borrow.Author.Needs.{needs}
 use Rattle.head.specs.Counting.{rootAt}
 use Rattle.rules.specs.Slices.{treeOf}
-use Rattle.arena.specs.Blocks.{parentOf, ParentFits}
+use Rattle.stretch.specs.Blocks.{parentOf, ParentFits}
 use Rattle.arena.specs.Trees.{caps-small, count-nodes}
 use Rattle.arena.specs.Writes.{tree-rooted}
 use Rattle.split.specs.Crown.{pair-in, pair-room, crown-is}

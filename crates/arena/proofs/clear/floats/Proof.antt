@@ -6,7 +6,7 @@ use borrow.Author.Needs.{needs}
 use borrow.Rule.Slice.PartMut.{putMid, same-len-mid}
 use lib.ListN.{length, take, length-take, length-drop}
 use Rattle.arena.specs.Trees.{Rooms, slots-room}
-use Rattle.arena.specs.Stretches.{putStretch}
+use Rattle.stretch.specs.Stretches.{putStretch}
 use Rattle.arena.specs.Tidied.{floats-tidied}
 use Rattle.arena.proofs.clear.floats.Statement.{statement}
 use Rattle.arena.proofs.clear.floats.Tie as tie

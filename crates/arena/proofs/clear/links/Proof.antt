@@ -9,10 +9,10 @@ use lib.ListN.{length}
 use Rattle.head.specs.Sizes.{blockWidth}
 use Rattle.arena.specs.Trees.{blocks-room}
 use Rattle.arena.specs.Numbered.{block-of}
-use Rattle.arena.specs.Stretches.{putStretch, turn-room}
-use Rattle.arena.specs.Cleared.{tidyBlock, block-keeps}
+use Rattle.stretch.specs.Stretches.{putStretch, turn-room}
+use Rattle.stretch.specs.Tidy.{tidyBlock}
 use Rattle.arena.specs.Pieces.{partly, partly-none, partly-turn, partly-end}
-use Rattle.arena.specs.Tidied.{links-tidied}
+use Rattle.arena.specs.Tidied.{block-keeps, links-tidied}
 use Rattle.arena.proofs.clear.links.Statement.{statement}
 use Rattle.arena.proofs.clear.links.Tie as tie
 

@@ -8,8 +8,9 @@ use lib.ListN.{length}
 use Rattle.head.specs.Sizes.{slotWidth}
 use Rattle.binary64.specs.Operators.{f0}
 use Rattle.arena.specs.Numbered.{slot-long}
-use Rattle.arena.specs.Stretches.{putStretch, turn-room}
-use Rattle.arena.specs.Cleared.{tidySlot, slot-keeps}
+use Rattle.stretch.specs.Stretches.{putStretch, turn-room}
+use Rattle.stretch.specs.Tidy.{tidySlot}
+use Rattle.arena.specs.Tidied.{slot-keeps}
 use Rattle.arena.specs.Pieces.{partly, partly-none, partly-turn, partly-end}
 use Rattle.arena.proofs.clear.slots.Statement.{statement}
 use Rattle.arena.proofs.clear.slots.Tie as tie

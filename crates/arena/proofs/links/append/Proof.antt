@@ -8,7 +8,7 @@ use Rattle.rules.specs.Tree.{adding}
 use Rattle.arena.specs.Trees.{list-there, node-block}
 use Rattle.arena.specs.Writes.{node-relinked}
 use Rattle.arena.specs.Numbered.{block-fits, block-cut, block-of, block-put}
-use Rattle.arena.specs.Stretches.{putStretch}
+use Rattle.stretch.specs.Stretches.{putStretch}
 use Rattle.arena.proofs.links.append.Statement.{statement}
 use Rattle.arena.proofs.links.append.Tie as tie
 

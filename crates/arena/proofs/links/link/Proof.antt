@@ -5,8 +5,8 @@ use native.Mathlib.Omega.{arith}
 use borrow.Author.Needs.{needs}
 use lib.ListN.{length, take}
 use Rattle.arena.specs.Numbered.{block-fits, block-of, block-put}
-use Rattle.arena.specs.Stretches.{putStretch}
-use Rattle.arena.specs.Blocks.{parentOf, linked-is, relinked}
+use Rattle.stretch.specs.Stretches.{putStretch}
+use Rattle.stretch.specs.Blocks.{parentOf, linked-is, relinked}
 use Rattle.arena.proofs.links.link.Statement.{statement}
 use Rattle.arena.proofs.links.link.Tie as tie
 

@@ -7,7 +7,7 @@ use Rattle.rules.specs.Tree.{listing}
 use Rattle.arena.specs.Trees.{node-block}
 use Rattle.arena.specs.Writes.{node-relinked}
 use Rattle.arena.specs.Numbered.{block-fits, block-of, block-put}
-use Rattle.arena.specs.Stretches.{putStretch}
+use Rattle.stretch.specs.Stretches.{putStretch}
 use Rattle.arena.proofs.links.set_list.Statement.{statement}
 use Rattle.arena.proofs.links.set_list.Tie as tie
 

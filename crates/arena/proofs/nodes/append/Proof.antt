@@ -6,7 +6,7 @@ use lib.ListN.{take}
 use Rattle.rules.specs.Slices.{treeOf}
 use Rattle.arena.specs.Trees.{caps-small, block-in, slot-in}
 use Rattle.arena.specs.Writes.{node-more}
-use Rattle.arena.specs.Blocks.{parentOf, nodeOf}
+use Rattle.stretch.specs.Blocks.{parentOf, nodeOf}
 use Rattle.arena.proofs.nodes.append.Statement.{statement}
 use Rattle.arena.proofs.nodes.append.Tie as tie
 

@@ -4,7 +4,7 @@ use native.Mathlib.Omega.{arith}
 use borrow.Author.Needs.{needs}
 use lib.ListN.{length}
 use Rattle.feature.specs.Steps.{pushed}
-use Rattle.arena.specs.Stretches.{putStretch, whole}
+use Rattle.stretch.specs.Stretches.{putStretch, whole}
 use Rattle.arena.specs.Numbered.{slot-fits, slot-long, slot-put}
 use Rattle.arena.proofs.slots.push.Statement.{statement}
 use Rattle.arena.proofs.slots.push.Tie as tie

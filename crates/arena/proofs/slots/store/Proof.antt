@@ -6,7 +6,7 @@ use borrow.Author.Needs.{needs}
 use lib.ListN.{length}
 use Rattle.rules.specs.Slices.{summaryIn}
 use Rattle.rules.specs.Stored.{summary-back}
-use Rattle.arena.specs.Stretches.{putStretch}
+use Rattle.stretch.specs.Stretches.{putStretch}
 use Rattle.arena.specs.Numbered.{slot-fits, slot-long, slot-put}
 use Rattle.arena.proofs.slots.store.Statement.{statement}
 use Rattle.arena.proofs.slots.store.Tie as tie

@@ -6,7 +6,7 @@ use borrow.Author.Needs.{needs}
 use lib.ListN.{length}
 use Rattle.rules.specs.Slices.{summaryIn}
 use Rattle.distance.specs.Distances.{pointOf}
-use Rattle.arena.specs.Stretches.{whole}
+use Rattle.stretch.specs.Stretches.{whole}
 use Rattle.arena.specs.Numbered.{summaryAt, slot-fits, slot-long, slot-cut}
 use Rattle.arena.proofs.slots.to_row.Statement.{statement}
 use Rattle.arena.proofs.slots.to_row.Tie as tie

@@ -10,7 +10,7 @@ use Rattle.rules.specs.Refit.{route}
 use Rattle.rules.specs.Lists.{rowsOf}
 use Rattle.rules.specs.Slices.{treeOf}
 use Rattle.arena.specs.Trees.{caps-small}
-use Rattle.arena.specs.Stretches.{copiedTo, copied-turn}
+use Rattle.stretch.specs.Stretches.{copiedTo, copied-turn}
 use Rattle.rows.specs.Rows.{row-in, row-wide}
 use Rattle.outputs.proofs.routes.write_routes.Statement.{statement}
 use Rattle.outputs.proofs.routes.write_routes.Tie as tie

@@ -12,7 +12,7 @@ use Rattle.rules.specs.Lists.{joined, table}
 use Rattle.rules.specs.Slices.{treeOf}
 use Rattle.rules.specs.Tree.{entryAt}
 use Rattle.arena.specs.Trees.{entry-shaped}
-use Rattle.arena.specs.Stretches.{putStretch, room}
+use Rattle.stretch.specs.Stretches.{putStretch, room}
 use native.Mathlib.Nat.{zero-mul}
 use borrow.Rule.Slice.PartMut.{same-len-mid}
 use Rattle.outputs.proofs.spread.write_spread.Statement.{statement}

@@ -3,7 +3,7 @@ use mathlib.Core.Path.{ap}
 use borrow.Author.Needs.{needs}
 use borrow.Author.Tests.{lt-ltb, le-ltb}
 use lib.Dec.{eqb}
-use Rattle.arena.specs.Blocks.{parentOf}
+use Rattle.stretch.specs.Blocks.{parentOf}
 use Rattle.arena.specs.Trees.{count-nodes}
 use Rattle.validate.specs.Climbing.{hangsFrom}
 use Rattle.validate.proofs.climbing.hangs_from.Statement.{statement}

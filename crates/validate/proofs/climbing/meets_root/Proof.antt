@@ -4,7 +4,7 @@ use mathlib.Core.Path.{sym, ap, _∙_}
 use native.Mathlib.Omega.{arith}
 use borrow.Author.Needs.{needs}
 use Rattle.rules.specs.Slices.{treeOf}
-use Rattle.arena.specs.Blocks.{parentOf}
+use Rattle.stretch.specs.Blocks.{parentOf}
 use Rattle.arena.specs.Trees.{AnyFloats, count-nodes}
 use Rattle.validate.specs.Climbing.{meetsRoot}
 use Rattle.validate.specs.Climbed.{Meeting, meet-start, meet-root, meet-lower, meet-none, meet-out, meet-up, meet-end}

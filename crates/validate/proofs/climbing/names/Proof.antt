@@ -1,7 +1,7 @@
 -- `climbing::names` meets its contract: case by case.
 use borrow.Author.Needs.{needs}
 use Rattle.rules.specs.Check.{names}
-use Rattle.arena.specs.Blocks.{parentOf}
+use Rattle.stretch.specs.Blocks.{parentOf}
 use Rattle.validate.proofs.climbing.names.Statement.{statement}
 use Rattle.validate.proofs.climbing.names.Tie as tie
 

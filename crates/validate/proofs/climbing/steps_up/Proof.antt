@@ -5,7 +5,7 @@ use mathlib.Core.Option.{some}
 use native.Mathlib.Omega.{arith}
 use borrow.Author.Needs.{needs}
 use Rattle.rules.specs.Slices.{treeOf}
-use Rattle.arena.specs.Blocks.{parentOf}
+use Rattle.stretch.specs.Blocks.{parentOf}
 use Rattle.arena.specs.Trees.{AnyFloats, count-nodes}
 use Rattle.validate.specs.Climbing.{stepsUp}
 use Rattle.validate.specs.Climbed.{Climbing, climb-start, climb-root, climb-none, climb-out, climb-up, climb-end}

@@ -3,7 +3,7 @@ use borrow.Author.Needs.{needs}
 use borrow.Author.Tests.{lt-ltb, le-ltb}
 use Rattle.rules.specs.Slices.{treeOf}
 use Rattle.rules.specs.Check.{rooted, orphan}
-use Rattle.arena.specs.Blocks.{parentOf}
+use Rattle.stretch.specs.Blocks.{parentOf}
 use Rattle.arena.specs.Trees.{count-nodes}
 use Rattle.validate.proofs.rooted.rooted.Statement.{statement}
 use Rattle.validate.proofs.rooted.rooted.Tie as tie

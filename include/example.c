@@ -1,41 +1,79 @@
-/* Three rows in a tree of two summaries, without a heap.
- *   cc -Iinclude include/example.c target/staticlib/libexport.a -o target/example && target/example
- * prints
- *   2 entries, threshold 1
- *   0: weight 2, mean 0.5, deviation 0.5
- *   1: weight 1, mean 10, deviation 0
- *   a row of 3 numbers: refusal 4, 1, 3
+/* Reads rows from standard input into a station's tree, lists its entries and prints their spread.
+ *   cc -Iinclude include/example.c target/staticlib/libexport.a -o target/example
+ *   samples/day --plain | target/example
+ * A row is a line of numbers parted by blanks or tabs. There is no heap: the tree and its scratch are four arrays.
  */
 #include "cftree.h"
+#include <inttypes.h>
 #include <stdio.h>
+#include <stdlib.h>
+#include <string.h>
 
-enum { M = 2, DIM = 1, BRANCHING = 2, LEAF_CAP = 4, N = (M + 1) * (M + 2) / 2, WIDTH = 1 + 2 * DIM };
+enum { DIM = 4, BRANCHING = 8, LEAF_CAP = 8, M = 24, N = (M + 1) * (M + 2) / 2, WIDTH = 1 + 2 * DIM, FIELDS = 64, LINE = 1024 };
 
-static double floats[(N + M + 1) * WIDTH], scratch[(M + 1) * WIDTH];
-static uint32_t links[N * (3 + LEAF_CAP)], numbers[3 * (M + 1)];
+static double floats[(N + M + 1) * WIDTH], scratch[(M + 1) * WIDTH], spread[M * DIM];
+static uint32_t links[N * (3 + (BRANCHING > LEAF_CAP ? BRANCHING : LEAF_CAP))], numbers[3 * (M + 1)];
 
 #define COUNT(a) (sizeof(a) / sizeof((a)[0]))
 #define TREE floats, COUNT(floats), links, COUNT(links)
 #define SCRATCH scratch, COUNT(scratch), numbers, COUNT(numbers)
 
-int main(void) {
-    cftree_head head = {.dim = DIM, .branching = BRANCHING, .leaf_cap = LEAF_CAP, .max_leaves = M, .threshold = 0.0,
-                        .feature = CFTREE_SPHERICAL, .dist = CFTREE_CENTROID_EUCLIDEAN, .abs = CFTREE_CENTROID_EUCLIDEAN};
-    const double rows[] = {0.0, 1.0, 10.0};
-    cftree_outcome made = cftree_create(head, TREE);
-    if (made.answer.number != CFTREE_ACCEPTED) return 1;
-    for (int i = 0; i < 3; i++) {
-        made = cftree_insert_row(made.head, TREE, SCRATCH, &rows[i], 1);
-        if (made.answer.number != CFTREE_ACCEPTED) return 1;
+static const char *const names[] = {"accepted", "SETTINGS", "ROOM", "TREE", "SHAPE", "EMPTY", "FULL", "OUTPUT"};
+
+/* The numbers of a line, FIELDS at most; -1 where a word is none or there are more. */
+static int row_of(char *line, double *row) {
+    int count = 0;
+    for (char *word = strtok(line, " \t\r\n"); word; word = strtok(NULL, " \t\r\n")) {
+        char *end;
+        if (count == FIELDS) return -1;
+        row[count++] = strtod(word, &end);
+        if (*end) return -1;
     }
-    cftree_listing list = cftree_entries(made.head, TREE);
-    printf("%u entries, threshold %g\n", (unsigned)list.entries, made.head.threshold);
+    return count;
+}
+
+static int refused(unsigned long line, cftree_answer a) {
+    fprintf(stderr, "line %lu: refused, %s (%" PRIu64 ", %" PRIu64 ")\n", line, names[a.number], a.first, a.second);
+    return 1;
+}
+
+static void print_all(const char *before, const double *xs, size_t count) {
+    fputs(before, stdout);
+    for (size_t i = 0; i < count; i++) printf(" %.4f", xs[i]);
+}
+
+/* Each entry: its number, how many rows it stands for, their mean, and the spread of each channel. */
+static int print_tree(cftree_head head) {
+    cftree_listing list = cftree_entries(head, TREE);
+    cftree_answer wrote = cftree_spread(head, TREE, spread, COUNT(spread));
+    if (list.answer.number != CFTREE_ACCEPTED) return refused(0, list.answer);
+    if (wrote.number != CFTREE_ACCEPTED) return refused(0, wrote);
+    printf("%" PRIu64 " entries, threshold %.4f\n", list.entries, head.threshold);
     for (uint64_t i = 0; i < list.entries; i++) {
         const double *entry = &floats[list.first + i * list.width];
-        printf("%u: weight %g, mean %g, deviation %g\n", (unsigned)i, entry[0], entry[1], entry[1 + list.means]);
+        printf("%" PRIu64 ": %.0f rows", i, entry[0]);
+        print_all(", mean", entry + 1, list.means);
+        print_all(", spread", spread + i * DIM, DIM);
+        puts("");
     }
-    cftree_outcome refused = cftree_insert_row(made.head, TREE, SCRATCH, rows, 3);
-    printf("a row of 3 numbers: refusal %u, %u, %u\n", (unsigned)refused.answer.number, (unsigned)refused.answer.first,
-           (unsigned)refused.answer.second);
-    return refused.head.rebuilds == made.head.rebuilds ? 0 : 1;
+    return 0;
+}
+
+int main(void) {
+    cftree_head head = {.dim = DIM, .branching = BRANCHING, .leaf_cap = LEAF_CAP, .max_leaves = M, .threshold = 0.0,
+                        .feature = CFTREE_DIAGONAL, .dist = CFTREE_CENTROID_EUCLIDEAN, .abs = CFTREE_CENTROID_EUCLIDEAN};
+    char line[LINE];
+    double row[FIELDS];
+    cftree_outcome tree = cftree_create(head, TREE);
+    if (tree.answer.number != CFTREE_ACCEPTED) return refused(0, tree.answer);
+    for (unsigned long at = 1; fgets(line, sizeof line, stdin); at++) {
+        int count = strlen(line) + 1 < sizeof line ? row_of(line, row) : -1;
+        if (count < 0) {
+            fprintf(stderr, "line %lu: no row of numbers\n", at);
+            return 1;
+        }
+        tree = cftree_insert_row(tree.head, TREE, SCRATCH, row, (size_t)count);
+        if (tree.answer.number != CFTREE_ACCEPTED) return refused(at, tree.answer);
+    }
+    return print_tree(tree.head);
 }

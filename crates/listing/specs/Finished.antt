@@ -1,0 +1,77 @@
+-- The end of a run: what it prints with no line left.
+use Prim.Native.Nat.{ℕ, zero, suc, _-_, _≤_, _<_}
+use mathlib.Core.Bool.{Bool, true}
+use mathlib.Core.List.{List, [], _∷_}
+use mathlib.Core.Path.{_≡_, sym, ap, _∙_}
+use native.Mathlib.Omega.{arith}
+use lib.ListN.{length, getD}
+use lib.Ieee.{Float}
+use Rattle.binary64.specs.Counts.{isCount}
+use Rattle.feature.specs.declared.Summary.{Summary}
+use Rattle.feature.specs.Summaries.{blank}
+use Rattle.head.specs.declared.Head.{Head}
+use Rattle.head.specs.Heads.{settingsOf}
+use Rattle.head.specs.Limits.{both}
+use Rattle.rules.specs.Lists.{every}
+use Rattle.rules.specs.Tree.{entryAt}
+use Rattle.rules.specs.Slices.{treeOf}
+use Rattle.rules.specs.Calls.{lentTree}
+use Rattle.rules.specs.Listing.{badLine, report, rowsListed, linesListed}
+use Rattle.arena.specs.Trees.{count-entries}
+use Rattle.validate.specs.Passing.{passing-floats, passing-counts}
+use Rattle.reports.specs.Entries.{Reportable}
+use Rattle.listing.specs.declared.Stage.{Stage}
+use Rattle.listing.specs.declared.Stage.the-variants as Stages
+use Rattle.listing.specs.declared.Run.{Run}
+use Rattle.listing.specs.Runs.{listedAt, listed, Grown, Stands, stage-stands}
+use Rattle.listing.specs.Heads.{floats-enough}
+use Rattle.listing.specs.Rows.{grown-rests, grown-passes, grown-total, grown-few}
+
+every-at : (p : Summary → Bool) (l : List Summary) (i : ℕ) → every p l ≡ true → i < length l → p (getD l i blank) ≡ true
+unfolding every
+every-at p [] i e h = absurd (omega arith)
+every-at p (x ∷ l) zero e h = both (p x) _ e .0
+every-at p (x ∷ l) (suc i) e h = every-at p l i (both (p x) _ e .1) (omega arith)
+
+-- a run over its rows can report, and each row weighs one
+pub reportable : {n : ℕ} {h : Head} {fs : List Float} {ks : List ℕ} → Grown n h fs ks → 5950 ≤ length fs → Reportable h (n - 2) fs ks
+unfolding lentTree entryAt
+reportable {n} {h} {fs} {ks} g room =
+    let s = settingsOf h in
+    let c = h .counters in
+    let z = g .public .sizes in
+    let few = grown-few g in
+    let enough = floats-enough s z few in
+    let long = count-entries s c fs ks in
+    let most = grown-rests g .few in
+    let total = grown-total g in
+    record {
+      entries = record {
+        floats-in = passing-floats s c fs ks (grown-passes g) z (omega arith);
+        few = omega arith;
+        counts = (λ i l. every-at (λ e. isCount (e .weight)) (treeOf s c fs ks .entries) i (passing-counts s c fs ks (grown-passes g) ks) (omega arith));
+      };
+      total-is = omega arith;
+    }
+
+-- ---- what is printed at the end, stage by stage
+
+module _ (r : Run) (fs : List Float) (ks : List ℕ) where
+  at-stage : (st : Stage) → r .stage ≡ st → listed st r fs ks [] ≡ listed (r .stage) r fs ks []
+  at-stage st e = ap (λ (q : Stage). listed q r fs ks []) (sym e)
+
+  pub rows-stand : r .stage ≡ Stages.Rows → Stands (r .stage) r fs ks → Grown (r .number) (r .head) fs ks
+  unfolding Stands
+  rows-stand e k = stage-stands r Stages.Rows e fs ks k
+
+  pub rows-end : r .stage ≡ Stages.Rows → report (settingsOf (r .head)) (lentTree (r .head) fs ks) ≡ listed (r .stage) r fs ks []
+  unfolding listed listedAt rowsListed
+  rows-end e = at-stage Stages.Rows e
+
+  pub first-end : r .stage ≡ Stages.First → Stands (r .stage) r fs ks → badLine (r .number) ≡ listed (r .stage) r fs ks []
+  unfolding Stands listed listedAt linesListed
+  first-end e k = ap badLine (stage-stands r Stages.First e fs ks k) ∙ at-stage Stages.First e
+
+  pub bad-end : r .stage ≡ Stages.Bad → badLine (r .number) ≡ listed (r .stage) r fs ks []
+  unfolding listed listedAt
+  bad-end e = at-stage Stages.Bad e

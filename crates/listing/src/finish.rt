@@ -1,0 +1,66 @@
+// The end of the input.
+ghost use mathlib.Core.Path.{_≡_};
+ghost use mathlib.Core.List.{[]};
+ghost use Prim.Native.Nat.{_≤_};
+ghost use lib.ListN.{length};
+ghost use Rattle.reports.specs.Lines.{Wrote};
+ghost use Rattle.listing.specs.Runs.{Room, Stands, Reading, listed, printed};
+use crate::Run;
+use crate::Stage;
+use crate::lines;
+use reports::write_bad;
+use reports::write_report;
+
+// The line that the input ends in, if it has bytes.
+fn last_line(
+    run: Run,
+    line: &[u8],
+    floats: &mut [f64],
+    links: &mut [u32],
+    scratch: &mut [f64],
+    numbers: &mut [u32],
+) -> Run
+    requires { ⌜ Room (length (now line)) (length (now floats)) (length (now links)) (length (now scratch)) (length (now numbers)) ⌝ }
+    requires { ⌜ Reading run (now floats) (now links) ⌝ }
+    ensures { λ r. ⌜ Stands (r .stage) r (now (floats .exit)) (now (links .exit)) ⌝ }
+    ensures { λ r. ⌜
+        listed (r .stage) r (now (floats .exit)) (now (links .exit)) []
+        ≡ printed run (now (line .entry)) (now (floats .entry)) (now (links .entry)) [] ⌝ }
+{
+    if run.long == 0 {
+        return run;
+    }
+    lines::end_line(run, line, floats, links, scratch, numbers)
+}
+
+// What is printed where no line is left.
+fn print(run: Run, floats: &[f64], links: &[u32], out: &mut [u8]) -> usize
+    requires { ⌜ (5950 ≤ length (now floats)) × (8192 ≤ length (now out)) × Stands (run .stage) run (now floats) (now links) ⌝ }
+    ensures { λ r. ⌜ Wrote 0 (listed (run .stage) run (now (floats .entry)) (now (links .entry)) []) (now (out .entry)) (now (out .exit)) r ⌝ }
+{
+    let stage = run.stage;
+    match stage {
+        Stage::First => write_bad(run.number, out),
+        Stage::Rows => write_report(run.head, run.number - 2, floats, links, out),
+        Stage::Bad => write_bad(run.number, out),
+    }
+}
+
+// Writes what the run prints to the front of out; gives its length.
+pub fn finish(
+    run: Run,
+    line: &[u8],
+    floats: &mut [f64],
+    links: &mut [u32],
+    scratch: &mut [f64],
+    numbers: &mut [u32],
+    out: &mut [u8],
+) -> usize
+    requires { ⌜ Room (length (now line)) (length (now floats)) (length (now links)) (length (now scratch)) (length (now numbers)) ⌝ }
+    requires { ⌜ Reading run (now floats) (now links) × (8192 ≤ length (now out)) ⌝ }
+    ensures { λ r. ⌜
+        Wrote 0 (printed run (now (line .entry)) (now (floats .entry)) (now (links .entry)) []) (now (out .entry)) (now (out .exit)) r ⌝ }
+{
+    let r = last_line(run, line, floats, links, scratch, numbers);
+    print(r, floats, links, out)
+}

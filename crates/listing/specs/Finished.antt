@@ -1,22 +1,19 @@
 -- The end of a run: what it prints with no line left.
-use Prim.Native.Nat.{ℕ, zero, suc, _-_, _≤_, _<_}
-use mathlib.Core.Bool.{Bool, true}
-use mathlib.Core.List.{List, [], _∷_}
+use Prim.Native.Nat.{ℕ, _-_, _≤_}
+use mathlib.Core.List.{List, []}
 use mathlib.Core.Path.{_≡_, sym, ap, _∙_}
 use native.Mathlib.Omega.{arith}
-use lib.ListN.{length, getD}
+use lib.ListN.{length}
 use lib.Ieee.{Float}
 use Rattle.binary64.specs.Counts.{isCount}
-use Rattle.feature.specs.declared.Summary.{Summary}
 use Rattle.feature.specs.Summaries.{blank}
 use Rattle.head.specs.declared.Head.{Head}
 use Rattle.head.specs.Heads.{settingsOf}
-use Rattle.head.specs.Limits.{both}
-use Rattle.rules.specs.Lists.{every}
 use Rattle.rules.specs.Tree.{entryAt}
 use Rattle.rules.specs.Slices.{treeOf}
 use Rattle.rules.specs.Calls.{lentTree}
 use Rattle.rules.specs.Listing.{badLine, report, rowsListed, linesListed}
+use Rattle.laws.specs.Check.Accept.{every-at}
 use Rattle.arena.specs.Trees.{count-entries}
 use Rattle.validate.specs.Passing.{passing-floats, passing-counts}
 use Rattle.reports.specs.Entries.{Reportable}
@@ -25,13 +22,7 @@ use Rattle.listing.specs.declared.Stage.the-variants as Stages
 use Rattle.listing.specs.declared.Run.{Run}
 use Rattle.listing.specs.Runs.{listedAt, listed, Grown, Stands, stage-stands}
 use Rattle.listing.specs.Heads.{floats-enough}
-use Rattle.listing.specs.Rows.{grown-rests, grown-passes, grown-total, grown-few}
-
-every-at : (p : Summary → Bool) (l : List Summary) (i : ℕ) → every p l ≡ true → i < length l → p (getD l i blank) ≡ true
-unfolding every
-every-at p [] i e h = absurd (omega arith)
-every-at p (x ∷ l) zero e h = both (p x) _ e .0
-every-at p (x ∷ l) (suc i) e h = every-at p l i (both (p x) _ e .1) (omega arith)
+use Rattle.listing.specs.Rows.{t-true, true-t, grown-rests, grown-passes, grown-total, grown-few}
 
 -- a run over its rows can report, and each row weighs one
 pub reportable : {n : ℕ} {h : Head} {fs : List Float} {ks : List ℕ} → Grown n h fs ks → 5950 ≤ length fs → Reportable h (n - 2) fs ks
@@ -49,7 +40,7 @@ reportable {n} {h} {fs} {ks} g room =
       entries = record {
         floats-in = passing-floats s c fs ks (grown-passes g) z (omega arith);
         few = omega arith;
-        counts = (λ i l. every-at (λ e. isCount (e .weight)) (treeOf s c fs ks .entries) i (passing-counts s c fs ks (grown-passes g) ks) (omega arith));
+        counts = (λ i l. t-true _ (every-at (λ e. isCount (e .weight)) blank (treeOf s c fs ks .entries) (true-t (passing-counts s c fs ks (grown-passes g) ks)) i (omega arith)));
       };
       total-is = omega arith;
     }

@@ -16,6 +16,7 @@ use Rattle.head.specs.declared.Settings.{Settings}
 use Rattle.head.specs.Heads.{settingsOf}
 use Rattle.rules.specs.Tree.{Tree, fresh}
 use Rattle.rules.specs.Listing.{cut, badLine, firstLine, lineIn, rowsListed, linesListed}
+use Rattle.text.specs.Fields.{cut-yes, cut-no}
 use Rattle.text.specs.Firsts.{line-long, stops}
 use Rattle.text.specs.Rows.{line-floats, floats-long}
 use Rattle.listing.specs.declared.Stage.{Stage}
@@ -25,18 +26,11 @@ use Rattle.listing.specs.Runs.{reads-more, listedAt, listed, printed, Re
 
 -- ---- pieces
 
-cut-case : (t : Bool) (b : ℕ) (p rest : List ℕ) → eqb b 10 ≡ t
-    → cut 10 false p (b ∷ rest) ≡ elim t [ true ↦ reverse p ∷ cut 10 false [] rest | false ↦ cut 10 false (b ∷ p) rest ]
-unfolding cut
-cut-case t b p rest e =
-    let f : Bool → List (List ℕ) = λ t. elim t [ true ↦ reverse p ∷ cut 10 false [] rest | false ↦ cut 10 false (b ∷ p) rest ] in
-    ap f e
-
 cut-byte : (b : ℕ) (p rest : List ℕ) → (b ≡ 10 → ⊥) → cut 10 false p (b ∷ rest) ≡ cut 10 false (b ∷ p) rest
-cut-byte b p rest h = cut-case false b p rest (ne-eqb b 10 h)
+cut-byte b p rest h = cut-no 10 false b rest p (ne-eqb b 10 h)
 
 cut-line : (p rest : List ℕ) → cut 10 false p (10 ∷ rest) ≡ reverse p ∷ cut 10 false [] rest
-cut-line p rest = cut-case true 10 p rest refl
+cut-line p rest = cut-yes 10 false 10 rest p refl
 
 cut-end : (p : List ℕ) → 0 < length p → cut 10 false p [] ≡ reverse p ∷ []
 unfolding cut
@@ -47,8 +41,8 @@ abbrev Longer : List ℕ → List ℕ → Type 0
 Longer p rest = (l : List ℕ) × (ls : List (List ℕ)) × (cut 10 false p rest ≡ l ∷ ls) × (length p ≤ length l)
 
 longer-case : (t : Bool) (b : ℕ) (p rest : List ℕ) → eqb b 10 ≡ t → Longer (b ∷ p) rest → Longer p (b ∷ rest)
-longer-case true b p rest e k = (reverse p, cut 10 false [] rest, cut-case true b p rest e, let r = length-reverse p in omega arith)
-longer-case false b p rest e k = (k .0, k .1, cut-case false b p rest e ∙ k .2, let l = k .3 in omega arith)
+longer-case true b p rest e k = (reverse p, cut 10 false [] rest, cut-yes 10 false b rest p e, let r = length-reverse p in omega arith)
+longer-case false b p rest e k = (k .0, k .1, cut-no 10 false b rest p e ∙ k .2, let l = k .3 in omega arith)
 
 longer : (p rest : List ℕ) → 0 < length p → Longer p rest
 longer p [] h = (reverse p, [], cut-end p h, let r = length-reverse p in omega arith)

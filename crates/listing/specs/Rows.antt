@@ -68,11 +68,11 @@ module _ {n : ℕ} {h : Head} {fs : List Float} {ks : List ℕ} (g : Grown n h f
 
 -- ---- the head keeps within its limits
 
-t-true : (b : Bool) → T b → b ≡ true
+pub t-true : (b : Bool) → T b → b ≡ true
 t-true true h = refl
 t-true false h = absurd h
 
-true-t : {b : Bool} → b ≡ true → T b
+pub true-t : {b : Bool} → b ≡ true → T b
 true-t e = subst T (sym e) tt
 
 limits-kept : (h : Head) (t : Tree) → allowed h ≡ true → Fine (t .threshold) → allowed (withCounters h (countersOf t)) ≡ true

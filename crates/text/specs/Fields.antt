@@ -29,16 +29,17 @@ tab-no : (b : ℕ) (bs : List ℕ) → eqb b 9 ≡ false → tabAt (b ∷ bs) �
 unfolding tabAt
 tab-no b bs e = let f : Bool → ℕ = λ t. elim t [ true ↦ 0 | false ↦ suc (tabAt bs) ] in ap f e
 
-cut-yes : (b : ℕ) (bs p : List ℕ) → eqb b 9 ≡ true → cut 9 true p (b ∷ bs) ≡ reverse p ∷ cut 9 true [] bs
+-- a byte at which pieces are parted, and another one
+pub cut-yes : (m : ℕ) (all : Bool) (b : ℕ) (bs p : List ℕ) → eqb b m ≡ true → cut m all p (b ∷ bs) ≡ reverse p ∷ cut m all [] bs
 unfolding cut
-cut-yes b bs p e =
-    let f : Bool → List (List ℕ) = λ t. elim t [ true ↦ reverse p ∷ cut 9 true [] bs | false ↦ cut 9 true (b ∷ p) bs ] in
+cut-yes m all b bs p e =
+    let f : Bool → List (List ℕ) = λ t. elim t [ true ↦ reverse p ∷ cut m all [] bs | false ↦ cut m all (b ∷ p) bs ] in
     ap f e
 
-cut-no : (b : ℕ) (bs p : List ℕ) → eqb b 9 ≡ false → cut 9 true p (b ∷ bs) ≡ cut 9 true (b ∷ p) bs
+pub cut-no : (m : ℕ) (all : Bool) (b : ℕ) (bs p : List ℕ) → eqb b m ≡ false → cut m all p (b ∷ bs) ≡ cut m all (b ∷ p) bs
 unfolding cut
-cut-no b bs p e =
-    let f : Bool → List (List ℕ) = λ t. elim t [ true ↦ reverse p ∷ cut 9 true [] bs | false ↦ cut 9 true (b ∷ p) bs ] in
+cut-no m all b bs p e =
+    let f : Bool → List (List ℕ) = λ t. elim t [ true ↦ reverse p ∷ cut m all [] bs | false ↦ cut m all (b ∷ p) bs ] in
     ap f e
 
 reverse-more : (b : ℕ) (p q : List ℕ) → reverse (b ∷ p) ++ q ≡ reverse p ++ (b ∷ q)
@@ -51,10 +52,10 @@ Firsts bs p = cut 9 true p bs ≡ (reverse p ++ take (tabAt bs) bs) ∷ after (d
 cut-case : (t : Bool) (b : ℕ) (bs p : List ℕ) → eqb b 9 ≡ t → Firsts bs (b ∷ p) → Firsts (b ∷ bs) p
 unfolding after
 cut-case true b bs p e k =
-    cut-yes b bs p e ∙ ap (λ l. l ∷ cut 9 true [] bs) (sym (append-nil (reverse p)))
+    cut-yes 9 true b bs p e ∙ ap (λ l. l ∷ cut 9 true [] bs) (sym (append-nil (reverse p)))
     ∙ ap (λ n. (reverse p ++ take n (b ∷ bs)) ∷ after (drop n (b ∷ bs))) (sym (tab-yes b bs e))
 cut-case false b bs p e k =
-    cut-no b bs p e ∙ k ∙ ap (λ l. l ∷ after (drop (tabAt bs) bs)) (reverse-more b p (take (tabAt bs) bs))
+    cut-no 9 true b bs p e ∙ k ∙ ap (λ l. l ∷ after (drop (tabAt bs) bs)) (reverse-more b p (take (tabAt bs) bs))
     ∙ ap (λ n. (reverse p ++ take n (b ∷ bs)) ∷ after (drop n (b ∷ bs))) (sym (tab-no b bs e))
 
 cut-first : (bs p : List ℕ) → Firsts bs p
@@ -92,8 +93,8 @@ end-in l from h = omega (arith, tab-in (drop from l), length-drop from l)
 -- the piece before does not count
 count-case : (t : Bool) (b : ℕ) (bs p q : List ℕ) → eqb b 9 ≡ t → length (cut 9 true (b ∷ p) bs) ≡ length (cut 9 true (b ∷ q) bs)
     → length (cut 9 true p (b ∷ bs)) ≡ length (cut 9 true q (b ∷ bs))
-count-case true b bs p q e k = ap length (cut-yes b bs p e) ∙ sym (ap length (cut-yes b bs q e))
-count-case false b bs p q e k = ap length (cut-no b bs p e) ∙ k ∙ sym (ap length (cut-no b bs q e))
+count-case true b bs p q e k = ap length (cut-yes 9 true b bs p e) ∙ sym (ap length (cut-yes 9 true b bs q e))
+count-case false b bs p q e k = ap length (cut-no 9 true b bs p e) ∙ k ∙ sym (ap length (cut-no 9 true b bs q e))
 
 count-piece : (bs p q : List ℕ) → length (cut 9 true p bs) ≡ length (cut 9 true q bs)
 unfolding cut
@@ -111,12 +112,12 @@ count-all l = refl
 module _ (l : List ℕ) (i : ℕ) where
   pub count-here : i < length l → getD l i 0 ≡ 9 → countFrom l i ≡ suc (countFrom l (i + 1))
   unfolding countFrom
-  count-here h e = ap (λ bs. length (cut 9 true [] bs)) (from-here l i h) ∙ ap length (cut-yes _ (drop (i + 1) l) [] (eq-eqb (getD l i 0) 9 e))
+  count-here h e = ap (λ bs. length (cut 9 true [] bs)) (from-here l i h) ∙ ap length (cut-yes 9 true _ (drop (i + 1) l) [] (eq-eqb (getD l i 0) 9 e))
 
   pub count-later : i < length l → (getD l i 0 ≡ 9 → ⊥) → countFrom l i ≡ countFrom l (i + 1)
   unfolding countFrom
   count-later h e =
-      ap (λ bs. length (cut 9 true [] bs)) (from-here l i h) ∙ ap length (cut-no _ (drop (i + 1) l) [] (ne-eqb (getD l i 0) 9 e))
+      ap (λ bs. length (cut 9 true [] bs)) (from-here l i h) ∙ ap length (cut-no 9 true _ (drop (i + 1) l) [] (ne-eqb (getD l i 0) 9 e))
       ∙ count-piece (drop (i + 1) l) (getD l i 0 ∷ []) []
 
   pub count-end : i ≡ length l → countFrom l i ≡ 1

@@ -4,10 +4,15 @@
  * memory of its own and keeps no state: all of a tree is in a head and two buffers that the caller lends.
  *
  * Nothing is required of what is in the head and in the buffers: every call does its work, or gives one of seven refusals
- * and leaves everything as it was. What is required is C's own: a pointer that is not null and is aligned, so many words
- * behind it as its length says (for length 0 any such pointer), and no two buffers of one call that overlap.
+ * and writes nothing. What is required, and cannot be checked:
+ *   - a pointer is not null and is aligned, and so many words are behind it as its length says (for length 0 any such
+ *     pointer), all of them set to some number; zeros will do;
+ *   - no two buffers of one call overlap;
+ *   - the floating-point environment is the default one: it rounds to nearest and does not flush subnormals to zero. (In a
+ *     program that is linked with -ffast-math the start-up code may flush them, and the answers are then others.)
+ *   - no two calls on one tree run at the same time, unless both only read it.
  *
- * Two calls on one tree must not run at the same time, unless both only read it.
+ * A NaN that a call works out may have any sign and payload, in the floats and in a spread: ask isnan, not the bits.
  */
 #ifndef CFTREE_H
 #define CFTREE_H
@@ -57,7 +62,9 @@ typedef struct {
     uint32_t abs;        /* what is held against the threshold */
 } cftree_head;
 
-/* Answers, in order of checking. A refused call gives the head back and leaves every buffer as lent. */
+/* Answers, in order of checking. A refused call gives the head back and leaves every buffer as lent: the functions that work
+ * out a refusal have the buffers to read only, so not a bit is written. (What is proved is that every number stays, and to
+ * the proof all NaNs are one number.) */
 enum {
     CFTREE_ACCEPTED = 0,
     CFTREE_SETTINGS = 1, /* a size, choice or the threshold in the head is outside its limits */

@@ -26,6 +26,12 @@ def word(x):
     return "7ff8000000000000" if x != x else struct.pack(">d", x).hex()
 
 
+def nan_word(draw):
+    """A NaN of either sign, quiet or signalling, with any payload."""
+    payload = draw.choice([1, 2**50, draw.randrange(1, 2**51)])
+    return "%016x" % (draw.getrandbits(1) << 63 | 0x7FF << 52 | draw.getrandbits(1) << 51 | payload)
+
+
 def words(numbers):
     return "".join(" " + word(x) for x in numbers)
 

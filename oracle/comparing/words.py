@@ -1,9 +1,13 @@
-"""Every lent word before and after a call: what document 01's Sizes says of them."""
+"""Every lent word before and after a call: what document 01's Sizes says of them.
+
+Words that a call leaves alone are compared by their bits. Where a call has worked floats out, NaN is one value.
+"""
 
 CHANGING = ("create", "insert", "batch", "refit")
 CALLS = CHANGING + ("route", "spread", "validate")
 SCRATCH = ["scratch_floats", "scratch_links"]
 FLOATS = ["floats", "scratch_floats", "spreads"]
+NAN = "7ff8000000000000"
 
 
 class Looked:
@@ -50,16 +54,32 @@ def tree_words(state):
     return {"floats": floats, "links": links}
 
 
+def values(words):
+    """Floats with every NaN the same."""
+    return [NAN if int(w, 16) & (2**63 - 1) > 0x7FF << 52 else w for w in words]
+
+
 def agree(asked, words):
     return len(asked) == len(words) and all(a is None or a == w for a, w in zip(asked, words))
 
 
-def after_change(before, after, seeds):
+def idle(command, before):
+    """Whether a changing call has nothing to do: no rows, or a refit of a tree with no entries."""
+    name, *numbers = command.split(" ")
+    entries = before.state.split("\n")[2].split(" ")[5] if before else None
+    return (name in ("batch", "refit") and not numbers) or (name == "refit" and entries == "0")
+
+
+def after_change(command, before, after, seeds):
     """An accepted changing call: the tree and zeros in the needed slots, surplus untouched."""
     for name, want in tree_words(after.state).items():
         needed, words = after.buffers[name]
-        if not agree(want, words[:needed]):
+        if not agree(want, values(words[:needed]) if name == "floats" else words[:needed]):
             return f"{name}: a needed word is neither the tree's nor zero"
+        if idle(command, before):
+            old = [b if w is None or int(w, 16) else w for w, b in zip(want, before.buffers[name][1])]
+            if before.state != after.state or words[:needed] != old:
+                return f"{name}: the tree changed in a call with nothing to do"
         lent = before.buffers[name][1] if before else lent_words(name, seeds, len(words))
         if words[needed:] != lent[needed:]:
             return f"{name}: the surplus was touched"
@@ -74,7 +94,9 @@ def filler(seed, at, is_float):
     """Word `at` of a buffer lent with a seed, as README.md defines it."""
     x = 0 if seed == 0 else (seed * 0x9E3779B97F4A7C15 + at * 0xBF58476D1CE4E5B9) % 2**64
     x ^= x >> 31
-    return "%016x" % (x & 0xFFEFFFFFFFFFFFFF) if is_float else str(x & 0xFFFFFFFF)
+    if not is_float:
+        return str(x & 0xFFFFFFFF)
+    return "%016x" % (x | 0x7FF << 52 if x >> 53 & 1 else x & 0xFFEFFFFFFFFFFFFF)
 
 
 def lent_words(name, seeds, count):
@@ -97,7 +119,9 @@ def after_reading(command, answer, before, after, seeds):
         return None
     written = answer.split(" ")[1:] if answer.startswith("ok") else []
     words = after.buffers[name][1]
-    if words != written + lent_words(name, seeds, len(words))[len(written) :]:
+    front = words[: len(written)]
+    front = values(front) if name == "spreads" else front
+    if front + words[len(written) :] != written + lent_words(name, seeds, len(words))[len(written) :]:
         return f"{name}: not the answer at the front and the lent words after it"
     return None
 
@@ -131,7 +155,7 @@ def broken(commands, answers):
             continue
         seeds = seeds_at(commands, at)
         if name in CHANGING and answer.startswith("ok"):
-            found = after_change(None if name == "create" else before, after, seeds)
+            found = after_change(command.text, None if name == "create" else before, after, seeds)
         else:
             found = after_reading(command.text, answer, before, after, seeds)
         if found:

@@ -1,7 +1,7 @@
 """Document 01, Seven refusals: the public calls, each refused or done whole."""
 from . import lent
 from .check import failing, settings_hold
-from .floats import TOP, bits, word
+from .floats import TOP, bits, one_nan, word
 from .rebuild import rebuild, refold
 from .refit import refit, route
 from .summaries import spread
@@ -143,6 +143,8 @@ class Library:
         if numbers is not None and wrong("empty_before_shape") and call == "route":
             self.check_empty(numbers)
         self.check_tree()
+        if call not in ("insert", "refit"):
+            self.loses_bits("look_one_nan")
         if numbers is None:
             return []
         self.check_shape(numbers, one_row)
@@ -152,8 +154,15 @@ class Library:
         if (rows or wrong("empty_for_no_rows")) and self.tree.entry_count == 0:
             raise Refused(EMPTY)
 
+    def loses_bits(self, reading):
+        """For a wrong reading: every lent NaN becomes the one that is printed."""
+        if wrong(reading) and self.tracked:
+            for name in lent.FLOATS:
+                self.buffers[name].words = list(map(one_nan, self.buffers[name].words))
+
     def refused(self):
-        """For a wrong reading: a refusal that touches the scratch."""
+        """For a wrong reading: a refusal that touches what is lent."""
+        self.loses_bits("refusal_one_nan")
         if wrong("refusal_clears") and self.tracked:
             for name in lent.SCRATCH:
                 words = self.buffers[name].words
@@ -204,6 +213,8 @@ class Library:
         if wrong("zero_rows_rebuild") and not rows and self.tree.entries:
             refold(self.tree)
         self.changed("insert")
+        if not rows:
+            self.loses_bits("zero_rows_one_nan")
 
     def refit(self, numbers):
         rows = self.begin("refit", numbers)

@@ -22,10 +22,13 @@ def unword(text):
 
 
 def bits(x):
-    """The bits as a number, one NaN for all."""
-    if x != x:
-        return int(NAN_WORD, 16)
+    """The bits as a number, a NaN's own."""
     return struct.unpack(">Q", struct.pack(">d", x))[0]
+
+
+def one_nan(number):
+    """Bits with every NaN the same."""
+    return int(NAN_WORD, 16) if number & (2**63 - 1) > 0x7FF << 52 else number
 
 
 def div(a, b):

@@ -3,7 +3,7 @@
 The tree stands decoded beside them. A buffer's words are what the tree puts in the slots that are
 read, and in all others what was lent there or what the last accepted changing call left: zero.
 """
-from .floats import bits
+from .floats import bits, one_nan
 from .wrong import wrong
 
 NONE = 2**32 - 1
@@ -14,12 +14,15 @@ MASK = 2**64 - 1
 
 
 def filler(seed, at, is_float):
-    """Word `at` of a buffer filled from a seed: any bits but those of a NaN; seed 0 is zeros."""
+    """Word `at` of a buffer filled from a seed; seed 0 is zeros. A float with bit 53 is a NaN, of either
+    sign, quiet or signalling; one without it is none."""
     if seed == 0:
         return 0
     x = (seed * 0x9E3779B97F4A7C15 + at * 0xBF58476D1CE4E5B9) & MASK
     x ^= x >> 31
-    return x & 0xFFEFFFFFFFFFFFFF if is_float else x & 0xFFFFFFFF
+    if not is_float:
+        return x & 0xFFFFFFFF
+    return x | 0x7FF0000000000000 if x >> 53 & 1 else x & 0xFFEFFFFFFFFFFFFF
 
 
 def needed(h):
@@ -88,6 +91,8 @@ def clear(tree, buffers, need):
         words = buffers[name].words
         end = len(words) if wrong("surplus_cleared") else min(count, len(words))
         words[:end] = [0] * end
+        if wrong("surplus_one_nan") and name in FLOATS:
+            words[end:] = map(one_nan, words[end:])
     overlay(tree, buffers)
 
 

@@ -142,6 +142,10 @@ READINGS = {
     "surplus_cleared": "a buffer's surplus is cleared too",
     "refusal_clears": "a refusal clears the scratch",
     "route_clears": "routing clears the rest of its output",
+    "refusal_one_nan": "a refusal rewrites each lent NaN as 7ff8000000000000",
+    "look_one_nan": "routing, spread and the tree check rewrite each lent NaN so",
+    "surplus_one_nan": "a changing call rewrites each NaN of the surplus so",
+    "zero_rows_one_nan": "a batch of zero rows rewrites each NaN so",
 }
 
 ON = set()

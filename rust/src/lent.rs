@@ -1,7 +1,8 @@
 //! The calls over a head and slices that the caller lends, as a controller without a heap uses them.
 //!
 //! Nothing is required of what is lent: any head, any numbers in the slices, slices of any length. A call does its work or
-//! is refused, and a refused call changes nothing.
+//! is refused, and a refused call writes nothing: the functions that work out a refusal have the slices to read only. What
+//! a C caller has to see to, memory that is there and is set, and buffers that do not overlap, slices see to by their type.
 
 use crate::raw;
 use crate::refusal::Refusal;
@@ -99,7 +100,6 @@ pub struct Lent<'a> {
 }
 
 /// Where the entries stand: entry i's weight is float `first + i * width`; `means` means follow, then `deviations` deviations.
-#[repr(C)]
 #[derive(Clone, Copy, Debug, PartialEq, Eq)]
 pub struct Places {
     pub entries: u64,
@@ -157,7 +157,13 @@ pub fn validate(head: Head, floats: &[f64], links: &[u32]) -> Result<(), Refusal
 /// Where the entries stand in the floats.
 pub fn entries(head: Head, floats: &[f64], links: &[u32]) -> Result<Places, Refusal> {
     let listing = raw::entries(head, floats, links);
-    answer(listing.answer).map(|()| listing.places)
+    answer(listing.answer).map(|()| Places {
+        entries: listing.entries,
+        first: listing.first,
+        width: listing.width,
+        means: listing.means,
+        deviations: listing.deviations,
+    })
 }
 
 /// The entry number of each row, to the front of the output.

@@ -1,7 +1,7 @@
-//! The C layer as `include/cftree.h` has it. Every `unsafe` of the crate is here: a slice is passed as its pointer and its
-//! length, and the library reads and writes nothing else.
+//! The C layer as `include/cftree.h` has it; `.ci/shapes` holds both against the library's own text. Every `unsafe` of the
+//! crate is here: a slice is passed as its pointer and its length, and the library reads and writes nothing else.
 
-use crate::lent::{Head, Places};
+use crate::lent::Head;
 
 #[repr(C)]
 pub struct Answer {
@@ -19,7 +19,11 @@ pub struct Outcome {
 #[repr(C)]
 pub struct Listing {
     pub answer: Answer,
-    pub places: Places,
+    pub entries: u64,
+    pub first: u64,
+    pub width: u64,
+    pub means: u64,
+    pub deviations: u64,
 }
 
 extern "C" {

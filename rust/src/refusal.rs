@@ -2,7 +2,7 @@
 
 use std::fmt;
 
-/// Why a call was refused. A refused call leaves the head and every buffer as they were.
+/// Why a call was refused. A refused call leaves the head and every buffer as they were, bit for bit.
 #[derive(Clone, Copy, Debug, PartialEq, Eq, Hash)]
 pub enum Refusal {
     /// 1: a size, a choice or the threshold in the head is outside its limits.

@@ -48,9 +48,10 @@ impl Draw {
         }
     }
 
+    /// Any bits now and then, half of them a NaN's.
     fn float(&mut self) -> f64 {
         match self.below(4) {
-            0 => f64::from_bits(self.next()),
+            0 => f64::from_bits(self.next() | (self.below(2) * (0x7ff << 52))),
             1 => 0.0,
             _ => self.below(5) as f64,
         }

@@ -18,20 +18,25 @@ pub const SPREADS: usize = 5;
 /// A word of a buffer.
 pub trait Word: Copy {
     fn cut(filler: u64) -> Self;
-    /// Its bits, those of every NaN the same.
+    /// Its bits; a NaN has its own.
     fn bits(self) -> u64;
     fn text(self) -> String;
 }
 
 impl Word for f64 {
+    /// With bit 53 a NaN, of either sign, quiet or signalling; without it none.
     fn cut(filler: u64) -> f64 {
-        f64::from_bits(filler & 0xffef_ffff_ffff_ffff)
+        f64::from_bits(if filler & (1 << 53) != 0 {
+            filler | 0x7ff0_0000_0000_0000
+        } else {
+            filler & 0xffef_ffff_ffff_ffff
+        })
     }
     fn bits(self) -> u64 {
-        crate::words::bits(self)
+        self.to_bits()
     }
     fn text(self) -> String {
-        crate::words::hex(self)
+        format!("{:016x}", self.to_bits())
     }
 }
 
@@ -90,6 +95,7 @@ impl Lending {
     }
 }
 
+/// Whether words are the same, bit for bit.
 pub fn same<W: Word>(one: &[W], other: &[W]) -> bool {
     one.len() == other.len() && one.iter().zip(other).all(|(a, b)| a.bits() == b.bits())
 }

@@ -1,4 +1,5 @@
-//! The library's calls. After each one every lent word is looked at: a call that breaks a rule on them answers `broken`.
+//! The library's calls. After each one every lent word is looked at, bit for bit: a call that breaks a rule on them
+//! answers `broken`.
 
 use crate::buffers::{same, FLOATS, LINKS, OUTPUT, SCRATCH_FLOATS, SCRATCH_LINKS, SPREADS};
 use crate::layout::Layout;
@@ -16,7 +17,7 @@ fn answered(answer: Result<(), Refusal>) -> String {
     answer.map_or_else(refused, |()| "ok".into())
 }
 
-/// Whether two heads are the same, number by number, NaN being one value.
+/// Whether two heads are the same, bit for bit.
 fn same_heads(a: &Head, b: &Head) -> bool {
     let of = |h: &Head| Head {
         threshold: 0.0,
@@ -69,7 +70,7 @@ impl Library {
             layout,
         });
         self.lend_scratch(0, 0);
-        match self.broken(&head, &old_floats, &old_links) {
+        match self.broken(&head, &old_floats, &old_links, false) {
             Some(why) => format!("broken: {why}"),
             None => "ok".into(),
         }
@@ -79,6 +80,7 @@ impl Library {
         let head = self.tree.as_ref().ok_or("no tree")?.head;
         self.lend_scratch(head.scratch_floats_needed(), head.scratch_links_needed());
         let (floats, links) = (self.floats.clone(), self.links.clone());
+        let as_lent = rows.to_vec();
         let lent = Lent {
             floats: &mut self.floats,
             links: &mut self.links,
@@ -86,12 +88,13 @@ impl Library {
             scratch_links: &mut self.scratch_links,
         };
         let outcome = call(head, lent, rows);
+        if !same(rows, &as_lent) {
+            return Ok("broken: the rows were written".into());
+        }
         if outcome.answer.is_err() {
             let (scratch, numbers) = self.scratch_as_lent();
-            let kept = same_heads(&outcome.head, &head)
-                && same(&self.floats, &floats)
-                && same(&self.links, &links);
-            if !kept
+            if !same_heads(&outcome.head, &head)
+                || !self.holds(&floats, &links)
                 || !same(&self.scratch_floats, &scratch)
                 || !same(&self.scratch_links, &numbers)
             {
@@ -100,10 +103,14 @@ impl Library {
             return Ok(answered(outcome.answer));
         }
         self.tree.as_mut().ok_or("no tree")?.head = outcome.head;
-        Ok(match self.broken(&head, &floats, &links) {
+        Ok(match self.broken(&head, &floats, &links, rows.is_empty()) {
             Some(why) => format!("broken: {why}"),
             None => "ok".into(),
         })
+    }
+
+    fn holds(&self, floats: &[f64], links: &[u32]) -> bool {
+        same(&self.floats, floats) && same(&self.links, links)
     }
 
     fn scratch_as_lent(&self) -> (Vec<f64>, Vec<u32>) {
@@ -114,8 +121,14 @@ impl Library {
     }
 
     /// What an accepted changing call may not leave: other settings, a needed word that is neither the tree's nor zero,
-    /// scratch that is not zero, a surplus that was touched.
-    fn broken(&self, before: &Head, old_floats: &[f64], old_links: &[u32]) -> Option<&'static str> {
+    /// scratch that is not zero, a surplus that was touched; and, with nothing to do, another tree than the one lent.
+    fn broken(
+        &self,
+        before: &Head,
+        old_floats: &[f64],
+        old_links: &[u32],
+        idle: bool,
+    ) -> Option<&'static str> {
         let tree = self.tree.as_ref()?;
         let (h, layout) = (tree.head, tree.layout);
         let settings = Head {
@@ -130,11 +143,16 @@ impl Library {
         if !same_heads(&settings, &h) {
             return Some("the settings changed");
         }
+        let plain = if idle {
+            layout.read(before, old_floats, old_links)
+        } else {
+            self.plain().ok()?
+        };
         let (mut floats, mut links) = (old_floats.to_vec(), old_links.to_vec());
         floats[..layout.floats()].fill(0.0);
         links[..layout.links()].fill(0);
-        layout.write(&self.plain().ok()?, &mut floats, &mut links);
-        if !same(&floats, &self.floats) || !same(&links, &self.links) {
+        layout.write(&plain, &mut floats, &mut links);
+        if (idle && !same_heads(before, &h)) || !self.holds(&floats, &links) {
             return Some("a word is neither the tree's nor zero nor as lent");
         }
         let (mut scratch, mut numbers) = self.scratch_as_lent();
@@ -157,7 +175,12 @@ impl Library {
         self.need[OUTPUT] = count;
         self.output = self.lending[OUTPUT].afresh(count);
         let as_lent = self.output.clone();
+        let (floats, links, rows_as_lent) =
+            (self.floats.clone(), self.links.clone(), rows.to_vec());
         let answer = lent::route(h, &self.floats, &self.links, rows, &mut self.output);
+        if !self.holds(&floats, &links) || !same(rows, &rows_as_lent) {
+            return Ok("broken: routing wrote what it only reads".into());
+        }
         let written = if answer.is_ok() { count } else { 0 };
         if !same(&self.output[written..], &as_lent[written..]) {
             return Ok("broken: the output past its front was touched".into());
@@ -180,7 +203,11 @@ impl Library {
         self.need[SPREADS] = count;
         self.spreads = self.lending[SPREADS].afresh(count);
         let as_lent = self.spreads.clone();
+        let (floats, links) = (self.floats.clone(), self.links.clone());
         let answer = lent::spread(h, &self.floats, &self.links, &mut self.spreads);
+        if !self.holds(&floats, &links) {
+            return Ok("broken: spread wrote what it only reads".into());
+        }
         let written = if answer.is_ok() { count } else { 0 };
         if !same(&self.spreads[written..], &as_lent[written..]) {
             return Ok("broken: the output past its front was touched".into());
@@ -197,6 +224,7 @@ impl Library {
         self.lend_scratch(0, 0);
         let tree = self.tree.as_ref().ok_or("no tree")?;
         let (h, layout) = (tree.head, tree.layout);
+        let (floats, links) = (self.floats.clone(), self.links.clone());
         let answer = lent::validate(h, &self.floats, &self.links);
         let places = Places {
             entries: h.entries,
@@ -207,6 +235,9 @@ impl Library {
         };
         if lent::entries(h, &self.floats, &self.links) != answer.map(|()| places) {
             return Ok("broken: the listing is not as the tree check and the layout".into());
+        }
+        if !self.holds(&floats, &links) {
+            return Ok("broken: the tree check or the listing wrote what it only reads".into());
         }
         Ok(answered(answer))
     }

@@ -1,16 +1,10 @@
 //! Floats as 16 lowercase hex digits of their bits, a printed NaN always the same; other numbers decimal.
 
-/// The bits of a float, those of every NaN the same.
-pub fn bits(x: f64) -> u64 {
-    if x.is_nan() {
-        0x7ff8_0000_0000_0000
-    } else {
-        x.to_bits()
-    }
-}
-
 pub fn hex(x: f64) -> String {
-    format!("{:016x}", bits(x))
+    if x.is_nan() {
+        return "7ff8000000000000".into();
+    }
+    format!("{:016x}", x.to_bits())
 }
 
 pub fn float(word: &str) -> Result<f64, String> {

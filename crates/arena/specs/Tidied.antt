@@ -17,7 +17,7 @@ use Rattle.rules.specs.Lists.{joined}
 use Rattle.rules.specs.Tree.{Node}
 use Rattle.rules.specs.Slices.{stretch, filledTo, summaryIn, summaryOut, nodeIn, blockOut, slotAt, blockAt, treeOf, floatsOf, linksOf}
 use Rattle.rules.specs.Stored.{out-long, block-long}
-use Rattle.stretch.specs.Slots.{in-shaped}
+use Rattle.rules.specs.Held.{in-shaped}
 use Rattle.stretch.specs.Blocks.{block, list-in}
 use Rattle.stretch.specs.Tidy.{tidySlot, tidyBlock}
 use Rattle.stretch.specs.Stretches.{putStretch, put-rest, room, take-stretch}

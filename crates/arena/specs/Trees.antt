@@ -7,7 +7,6 @@ use native.Mathlib.Nat.{mul-le-mul-right, add-mul}
 use native.Mathlib.Omega.{arith}
 use lib.ListN.{length, getD}
 use lib.Ieee.{Float}
-use Rattle.feature.specs.Summaries.{blank}
 use Rattle.feature.specs.Shape.{Shaped}
 use Rattle.feature.specs.declared.Summary.{Summary}
 use Rattle.head.specs.declared.Settings.{Settings}
@@ -16,11 +15,11 @@ use Rattle.head.specs.Limits.{Sized}
 use Rattle.head.specs.Sizes.{nodeCap, entryCap, slotWidth, blockWidth, floatsNeeded, linksNeeded, nodes-small, entries-small}
 use Rattle.head.specs.Counting.{countNodes, countEntries}
 use Rattle.rules.specs.Lists.{changeAt, snoc}
-use Rattle.rules.specs.Tree.{Node, Tree, blankNode, nodeAt, entryAt, child, withNodes, withEntries}
+use Rattle.rules.specs.Tree.{Node, Tree, nodeAt, entryAt, child, withNodes, withEntries}
 use Rattle.rules.specs.Slices.{summaryIn, nodeIn, slotAt, blockAt, treeOf}
-use Rattle.rules.specs.ListLaws.{length-table, table-at}
+use Rattle.rules.specs.ListLaws.{length-table}
+use Rattle.rules.specs.Held.{in-shaped, node-held, entry-held}
 use Rattle.stretch.specs.Stretches.{room}
-use Rattle.stretch.specs.Slots.{in-shaped}
 use Rattle.arena.specs.Numbered.{SlotIn, BlockIn, summaryAt}
 
 -- ---- what the slices have to be: sized settings, counts within their caps, and room for all slots in n floats or n links
@@ -160,8 +159,7 @@ childSlot s false i = i
 
 module _ (s : Settings) (c : Counters) (fs : List Float) (ls : List ℕ) where
   pub node-at : (i : ℕ) → i < c .nodes → nodeAt (treeOf s c fs ls) i ≡ nodeIn s (slotAt s fs i) (blockAt s ls i)
-  unfolding nodeAt treeOf
-  node-at i h = table-at (λ i. nodeIn s (slotAt s fs i) (blockAt s ls i)) (c .nodes) i blankNode h
+  node-at = node-held s c fs ls
 
   -- a part of node i
   pub part-at : {A : Type 0} (part : Node → A) (i : ℕ) → i < c .nodes → part (nodeIn s (slotAt s fs i) (blockAt s ls i)) ≡ part (nodeAt (treeOf s c fs ls) i)
@@ -172,8 +170,8 @@ module _ (s : Settings) (c : Counters) (fs : List Float) (ls : List ℕ) where
   summary-at i h = ap (λ (n : Node). n .summary) (node-at i h)
 
   pub entry-at : (i : ℕ) → i < c .entries → entryAt (treeOf s c fs ls) i ≡ summaryAt s fs (nodeCap s + i)
-  unfolding entryAt treeOf summaryAt
-  entry-at i h = table-at (λ i. summaryIn s (slotAt s fs (nodeCap s + i))) (c .entries) i blank h
+  unfolding summaryAt
+  entry-at = entry-held s c fs ls
 
   pub child-at : (leaf : Bool) (i : ℕ) → ChildIn c leaf i → child (treeOf s c fs ls) leaf i ≡ summaryAt s fs (childSlot s leaf i)
   unfolding ChildIn child childSlot

@@ -44,6 +44,22 @@ pub nodes-some : (s : Settings) → 1 ≤ nodeCap s
 unfolding nodeCap
 nodes-some s = let p = product-le 1 2 (s .«max_leaves» + 1) (s .«max_leaves» + 2) (omega arith) (omega arith) in omega arith
 
+-- ---- scratch is at most twice the floats and links needed
+
+entries-nodes : (s : Settings) → entryCap s ≤ nodeCap s
+unfolding nodeCap entryCap
+entries-nodes s = let p = product-le (s .«max_leaves» + 1) 2 (s .«max_leaves» + 1) (s .«max_leaves» + 2) (omega arith) (omega arith) in omega arith
+
+pub scratch-floats-few : (s : Settings) → scratchFloatsNeeded s ≤ 2 * floatsNeeded s
+unfolding scratchFloatsNeeded floatsNeeded
+scratch-floats-few s = let p = product-le (entryCap s) (slotWidth s) (nodeCap s + entryCap s) (slotWidth s) (omega arith) (omega arith) in omega arith
+
+pub scratch-links-few : (s : Settings) → scratchLinksNeeded s ≤ 2 * linksNeeded s
+unfolding scratchLinksNeeded linksNeeded blockWidth
+scratch-links-few s =
+    let p = product-le (entryCap s) 3 (nodeCap s) (2 + max (s .branching) (s .«leaf_cap») + 1) (entries-nodes s) (omega arith) in
+    omega arith
+
 module _ (s : Settings) (z : Sized s) where
   pub entries-small : entryCap s ≤ 257
   unfolding entryCap

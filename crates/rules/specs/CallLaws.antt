@@ -1,12 +1,12 @@
 -- What the outcomes say: a refused call changes nothing, settings, room and tree are refused before any row, and zero rows alter nothing but the zeroing.
 use Prim.Native.Nat.{ℕ, suc, _+_, _/_, _≤_}
 use mathlib.Core.Path.{_≡_, refl, sym, ap}
-use mathlib.Core.Bool.{Bool, true, false, _&&_}
-use mathlib.Core.List.{List, [], _∷_, _++_}
+use mathlib.Core.Bool.{Bool, true, false, _&&_, _||_}
+use mathlib.Core.List.{List, [], _∷_, _++_, append-nil}
 use native.Mathlib.Nat.{zero-div, zero-mod}
 use native.Mathlib.Omega.{arith}
 use lib.ListN.{length, drop}
-use lib.Dec.{leb}
+use lib.Dec.{leb, eqb}
 use lib.Ieee.{Float}
 use borrow.Author.Tests.{leb-true, le-leb}
 use Rattle.binary64.specs.Whole.{most}
@@ -24,9 +24,10 @@ use Rattle.rules.specs.Lists.{every, rowsOf}
 use Rattle.rules.specs.ListLaws.{length-table}
 use Rattle.rules.specs.Tree.{Tree}
 use Rattle.rules.specs.Rebuild.{insertedAll}
+use Rattle.rules.specs.Refit.{refitted}
 use Rattle.rules.specs.Check.{lowest, sized, rooted, listFits, linked, filled, level, weighed, checked, totalOf}
 use Rattle.rules.specs.Slices.{treeOf, countersOf}
-use Rattle.rules.specs.Calls.{unless, answerOf, settingsRefusal, roomRefusal, batchShapeRefusal, insertFullRefusal, Lent, Left, lentTree, changeRefusals, changed, settle, batchRefusals, rowInserted, batchInserted, batchRefitted, fronted}
+use Rattle.rules.specs.Calls.{unless, answerOf, settingsRefusal, roomRefusal, batchShapeRefusal, insertFullRefusal, refitFullRefusal, Lent, Left, lentTree, changeRefusals, changed, settle, batchRefusals, rowInserted, batchInserted, batchRefitted, fronted}
 use Rattle.rules.specs.RefusalLaws.{none-both, unless-none, tree-none, room-none}
 use Rattle.rules.specs.declared.Verdict.the-variants.{Passes}
 
@@ -43,6 +44,12 @@ module _ (h : Head) (l : Lent) (done : Left) where
   unfolding settle answerOf
   refused-unchanged [] r e = let z : _≡_ {A = ℕ} 0 1 = cc in absurd (omega arith)
   refused-unchanged (q ∷ rs) r e = ap (λ (a : Answer). record { head = h; answer = a; lent = l }) e
+
+-- an accepted one passed every test, and is done
+pub accepted-done : (rs : List Refusal) (h : Head) (l : Lent) (done : Left) → settle rs h l done .answer ≡ Accepted → (rs ≡ []) × (settle rs h l done ≡ done)
+unfolding settle
+accepted-done [] h l done e = (refl, refl)
+accepted-done (r ∷ rs) h l done e = let z : _≡_ {A = ℕ} 0 1 = cc in absurd (omega arith)
 
 -- ---- what passing every test says
 
@@ -110,12 +117,25 @@ module _ (h : Head) (l : Lent) where
   zero-rows = go (changeRefusals h l) refl
     where
       go : (rs : List Refusal) → changeRefusals h l ≡ rs
-          → settle (rs ++ batchRefusals (settingsOf h) tree []) h l (changed h l (insertedAll (settingsOf h) (rowsOf (0 / settingsOf h .dim) (settingsOf h .dim) []) tree))
+          → settle (rs ++ batchRefusals (settingsOf h) tree []) h l
+          (changed h l (insertedAll (settingsOf h) (rowsOf (0 / settingsOf h .dim) (settingsOf h .dim) []) tree))
           ≡ settle rs h l (changed h l tree)
       go [] e =
           let total = passes-total (settingsOf h) tree (change-ready h l e .passes) in
           rw (none-wrong total) (ap (λ u. settle [] h l (changed h l u)) (rw (zero-div (settingsOf h .dim)) (unfold rowsOf insertedAll in refl)))
       go (r ∷ rs) e = unfold settle in refl
+
+  none-full : (b : Bool) → unless (b || leb 0 most) R.Full ≡ []
+  unfolding unless
+  none-full true = refl
+  none-full false = refl
+
+  -- and so is a refit with no rows
+  pub zero-rows-refit : batchRefitted h l [] ≡ settle (changeRefusals h l) h l (changed h l tree)
+  unfolding batchRefitted batchShapeRefusal refitFullRefusal refitted rowsOf unless
+  zero-rows-refit =
+      rw (zero-mod (settingsOf h .dim), zero-div (settingsOf h .dim), none-full (eqb (length (tree .entries)) 0))
+      (ap (λ rs. settle rs h l (changed h l tree)) (append-nil (changeRefusals h l)))
 
 -- ---- settings, room and tree before any row
 

@@ -16,6 +16,13 @@ pub mod Stored
 pub mod Calls
 pub mod RefusalLaws
 pub mod CallLaws
+pub mod OrderLaws
+pub mod Fronted
+pub mod Cleared
+pub mod Held
+pub mod Kept
+pub mod Creation
+pub mod LookLaws
 pub mod Listing
 pub mod Histories
 pub mod Computes

@@ -55,7 +55,7 @@ eight-is n l rest h e =
     back i k q = upTo-past _ n (replicate 8 f0) i k ∙ getD-replicate 8 i f0 nan q ∙ sym (e .zeros i k q)
 
 module _ (s : Settings) (z : Sized s) where
-  slots-in : slotsOf (s .feature) (s .dim) ≤ s .dim
+  pub slots-in : slotsOf (s .feature) (s .dim) ≤ s .dim
   unfolding slotsOf
   slots-in = go (s .feature)
     where
@@ -63,10 +63,10 @@ module _ (s : Settings) (z : Sized s) where
       go Spherical = z .dim-some
       go Diagonal = omega arith
 
-  means-long : (c : Summary) → Shaped (s .feature) (s .dim) c → length (take (s .dim) (c .mean)) ≡ s .dim
+  pub means-long : (c : Summary) → Shaped (s .feature) (s .dim) c → length (take (s .dim) (c .mean)) ≡ s .dim
   means-long c h = length-take-le (s .dim) (c .mean) (rw (h .means .long) (z .dim-few))
 
-  deviations-long : (c : Summary) → Shaped (s .feature) (s .dim) c → length (take (slotsOf (s .feature) (s .dim)) (c .deviation)) ≡ slotsOf (s .feature) (s .dim)
+  pub deviations-long : (c : Summary) → Shaped (s .feature) (s .dim) c → length (take (slotsOf (s .feature) (s .dim)) (c .deviation)) ≡ slotsOf (s .feature) (s .dim)
   deviations-long c h = let p = slots-in in length-take-le (slotsOf (s .feature) (s .dim)) (c .deviation) (let q = z .dim-few in rw (h .deviations .long) (omega arith))
 
   pub out-long : (c : Summary) → Shaped (s .feature) (s .dim) c → length (summaryOut s c) ≡ slotWidth s
@@ -123,19 +123,19 @@ module _ (s : Settings) (z : Sized s) where
   -- ---- the tree
 
   module _ (t : Tree) (fits : Fits s t) where
-    slots-long : (ns : List Node) → ((i : ℕ) → i < length ns → Shaped (s .feature) (s .dim) (getD ns i blankNode .summary)) → EachLong (slotWidth s) (map (λ n. summaryOut s (n .summary)) ns)
+    pub slots-long : (ns : List Node) → ((i : ℕ) → i < length ns → Shaped (s .feature) (s .dim) (getD ns i blankNode .summary)) → EachLong (slotWidth s) (map (λ n. summaryOut s (n .summary)) ns)
     slots-long [] h = tt
     slots-long (n ∷ ns) h = (out-long (n .summary) (h 0 (omega arith)), slots-long ns (λ i p. h (suc i) (omega arith)))
 
-    entries-long : (es : List Summary) → ((i : ℕ) → i < length es → Shaped (s .feature) (s .dim) (getD es i blank)) → EachLong (slotWidth s) (map (summaryOut s) es)
+    pub entries-long : (es : List Summary) → ((i : ℕ) → i < length es → Shaped (s .feature) (s .dim) (getD es i blank)) → EachLong (slotWidth s) (map (summaryOut s) es)
     entries-long [] h = tt
     entries-long (e ∷ es) h = (out-long e (h 0 (omega arith)), entries-long es (λ i p. h (suc i) (omega arith)))
 
-    blocks-long : (ns : List Node) → ((i : ℕ) → i < length ns → length (getD ns i blankNode .list) ≤ blockWidth s - 2) → EachLong (blockWidth s) (map (blockOut s) ns)
+    pub blocks-long : (ns : List Node) → ((i : ℕ) → i < length ns → length (getD ns i blankNode .list) ≤ blockWidth s - 2) → EachLong (blockWidth s) (map (blockOut s) ns)
     blocks-long [] h = tt
     blocks-long (n ∷ ns) h = (block-long n (h 0 (omega arith)), blocks-long ns (λ i p. h (suc i) (omega arith)))
 
-    node-slot : (fs : List Float) (i : ℕ) → i < length (t .nodes) → slotAt s (floatsOf s t ++ fs) i ≡ summaryOut s (nodeAt t i .summary)
+    pub node-slot : (fs : List Float) (i : ℕ) → i < length (t .nodes) → slotAt s (floatsOf s t ++ fs) i ≡ summaryOut s (nodeAt t i .summary)
     unfolding slotAt floatsOf filledTo nodeAt
     node-slot fs i l =
         let slots = map (λ (n : Node). summaryOut s (n .summary)) (t .nodes) in
@@ -144,17 +144,17 @@ module _ (s : Settings) (z : Sized s) where
         (piece-at (slotWidth s) slots _ i long (rw (length-map (t .nodes) (λ (n : Node). summaryOut s (n .summary))) l)
         ∙ map-at (λ (n : Node). summaryOut s (n .summary)) (t .nodes) i blankNode [] l)
 
-    node-block : (ls : List ℕ) (i : ℕ) → i < length (t .nodes) → blockAt s (linksOf s t ++ ls) i ≡ blockOut s (nodeAt t i)
+    pub node-block : (ls : List ℕ) (i : ℕ) → i < length (t .nodes) → blockAt s (linksOf s t ++ ls) i ≡ blockOut s (nodeAt t i)
     unfolding blockAt linksOf filledTo nodeAt
     node-block ls i l =
         simp append-assoc
         (piece-at (blockWidth s) (map (blockOut s) (t .nodes)) _ i (blocks-long (t .nodes) (fits .lists-few)) (rw (length-map (t .nodes) (blockOut s)) l)
         ∙ map-at (blockOut s) (t .nodes) i blankNode [] l)
 
-    nodes-part : List Float
+    unfoldable pub nodes-part : List Float
     nodes-part = filledTo (nodeCap s * slotWidth s) f0 (joined (map (λ n. summaryOut s (n .summary)) (t .nodes)))
 
-    nodes-part-long : length nodes-part ≡ nodeCap s * slotWidth s
+    pub nodes-part-long : length nodes-part ≡ nodeCap s * slotWidth s
     unfolding nodes-part nodeAt
     nodes-part-long =
         let out : Node → List Float = λ n. summaryOut s (n .summary) in
@@ -169,7 +169,7 @@ module _ (s : Settings) (z : Sized s) where
         (piece-at (slotWidth s) (map (summaryOut s) (t .entries)) _ i (entries-long (t .entries) (fits .entries-shaped)) (rw (length-map (t .entries) (summaryOut s)) l)
         ∙ map-at (summaryOut s) (t .entries) i blank [] l)
 
-    entry-slot : (fs : List Float) (i : ℕ) → i < length (t .entries) → slotAt s (floatsOf s t ++ fs) (nodeCap s + i) ≡ summaryOut s (entryAt t i)
+    pub entry-slot : (fs : List Float) (i : ℕ) → i < length (t .entries) → slotAt s (floatsOf s t ++ fs) (nodeCap s + i) ≡ summaryOut s (entryAt t i)
     unfolding slotAt floatsOf nodes-part
     entry-slot fs i l =
         let rest = filledTo (entryCap s * slotWidth s) f0 (joined (map (summaryOut s) (t .entries))) in

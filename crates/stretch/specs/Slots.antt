@@ -4,7 +4,7 @@ use mathlib.Core.Path.{_≡_, refl, sym, ap, ap₂, _∙_}
 use mathlib.Core.List.{List, [], _∷_, _++_}
 use mathlib.Core.Logic.{⊎-elim}
 use native.Mathlib.Omega.{arith}
-use lib.ListN.{length, set, take, drop, replicate, length-set, getD-replicate, take-append-drop}
+use lib.ListN.{length, set, take, drop, replicate, length-set, take-append-drop}
 use lib.Seq.{getD-take, getD-drop, getD-set-other, drop-set-add, take-set-le, length-take-le, ext-getD}
 use lib.Ieee.{Float, nan}
 use Rattle.binary64.specs.Operators.{_⊕_, _⊗_, _⊖_, f0}
@@ -13,7 +13,6 @@ use Rattle.kernels.specs.Channels.{at, upTo, sumTo, squareAt}
 use Rattle.kernels.specs.Laws.{length-upTo, upTo-past, upTo-below, upTo-same, upTo-turn, sum-same}
 use Rattle.feature.specs.Summaries.{Dim, slotsOf}
 use Rattle.feature.specs.Steps.{movedAt, addedAt, deviated}
-use Rattle.feature.specs.Shape.{Eight, Shaped}
 use Rattle.feature.specs.declared.Feature.{Feature}
 use Rattle.feature.specs.declared.Feature.the-variants.{Spherical, Diagonal}
 use Rattle.feature.specs.declared.Summary.{Summary}
@@ -25,6 +24,7 @@ use Rattle.head.specs.declared.Settings.{Settings}
 use Rattle.head.specs.Limits.{Sized}
 use Rattle.rules.specs.Slices.{eight, summaryIn}
 use Rattle.rules.specs.ListLaws.{below?}
+use Rattle.rules.specs.Stored.{slots-in}
 
 -- as many floats as a summary takes
 abbrev pub Slot : Settings → List Float → Type 0
@@ -180,14 +180,6 @@ widened f n q = sym (take-append-drop n (upPast n f n q)) ∙ ap₂ (λ a b. a +
 -- ---- what the parts make together
 
 module _ (s : Settings) (z : Sized s) where
-  pub slots-in : slotsOf (s .feature) (s .dim) ≤ s .dim
-  unfolding slotsOf
-  slots-in = go (s .feature)
-    where
-      go : (f : Feature) → slotsOf f (s .dim) ≤ s .dim
-      go Spherical = z .dim-some
-      go Diagonal = omega arith
-
   module _ (p : List Float) (e : Slot s p) where
     pub loaded : (m v : List Float) (n : ℕ) → n ≡ slotsOf (s .feature) (s .dim)
         → m ≡ upTo (at (take (length p - 1) (drop 1 p))) (s .dim) (replicate 8 f0)
@@ -195,7 +187,7 @@ module _ (s : Settings) (z : Sized s) where
         → _≡_ {A = Summary} (record { weight = at p 0; mean = m; deviation = v }) (summaryIn s p)
     unfolding summaryIn eight
     loaded m v n en em ev =
-        let few = slots-in in
+        let few = slots-in s z in
         let behind = drop (1 + s .dim) p in
         let k = length p - (1 + s .dim) in
         let mean : m ≡ eight (s .dim) (drop 1 p) = em ∙ eight-front (s .dim) (length p - 1) (drop 1 p) (omega arith) in
@@ -233,14 +225,3 @@ module _ (s : Settings) (z : Sized s) where
     between-parts d q u v eq eu ev =
         let gap = gap-parts d (s .dim) (length p - 1) (length o - 1) (drop 1 p) (drop 1 o) (z .dim-few) (omega arith) (omega arith) in
         ap (λ y. toSummary d (at p 0) (at o 0) y u v) (eq ∙ gap) ∙ ap₂ (toSummary d (at p 0) (at o 0) _) (eu ∙ ssd-is p e) (ev ∙ ssd-is o g)
-
-  -- what a slot holds has the shape of a summary
-  pub in-shaped : (p : List Float) → Shaped (s .feature) (s .dim) (summaryIn s p)
-  unfolding summaryIn
-  in-shaped p = let few = slots-in in let d = z .dim-few in record
-      { means = eight-shape (s .dim) _ (z .dim-few); deviations = eight-shape (slotsOf (s .feature) (s .dim)) _ (omega arith) }
-    where
-      eight-shape : (n : ℕ) (l : List Float) → n ≤ 8 → Eight (eight n l) n
-      eight-shape n l h =
-          unfold eight in
-          record { long = length-upTo (at l) n (replicate 8 f0); zeros = λ k p q. upTo-past (at l) n (replicate 8 f0) k p ∙ getD-replicate 8 k f0 nan q }

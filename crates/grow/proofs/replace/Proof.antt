@@ -9,7 +9,7 @@ use Rattle.rules.specs.Tree.{Tree, merge, distBetween}
 use Rattle.rules.specs.Slices.{summaryIn, treeOf}
 use Rattle.rules.specs.Descent.{leafFor, alongPath}
 use Rattle.rules.specs.Insert.{begun}
-use Rattle.stretch.specs.Slots.{in-shaped}
+use Rattle.rules.specs.Held.{in-shaped}
 use Rattle.arena.specs.Trees.{Floats, Links}
 use Rattle.descent.specs.Items.{fits-slot, distance-slot, taking-slot}
 use Rattle.grow.specs.Places.{Place, place-spare, floats-begun, links-begun}

@@ -1,7 +1,7 @@
 -- `descent::item::feed` meets its contract: case by case.
 use mathlib.Core.Path.{_∙_}
 use borrow.Author.Needs.{needs}
-use Rattle.stretch.specs.Slots.{in-shaped}
+use Rattle.rules.specs.Held.{in-shaped}
 use Rattle.descent.specs.Items.{taking, row-fits, slot-fits}
 use Rattle.descent.proofs.item.feed.Statement.{statement}
 use Rattle.descent.proofs.item.feed.Tie as tie

@@ -2,7 +2,8 @@
 use native.Mathlib.Omega.{arith}
 use borrow.Author.Needs.{needs}
 use lib.ListN.{length-take, length-drop}
-use Rattle.stretch.specs.Slots.{loaded, slots-in}
+use Rattle.rules.specs.Stored.{slots-in}
+use Rattle.stretch.specs.Slots.{loaded}
 use Rattle.stretch.proofs.slot.load.Statement.{statement}
 use Rattle.stretch.proofs.slot.load.Tie as tie
 

@@ -5,7 +5,7 @@ use Rattle.feature.specs.Steps.{merged}
 use Rattle.rules.specs.Slices.{summaryIn}
 use Rattle.rules.specs.Stored.{summary-back}
 use Rattle.feature.specs.Shape.{merged-shaped}
-use Rattle.stretch.specs.Slots.{in-shaped}
+use Rattle.rules.specs.Held.{in-shaped}
 use Rattle.stretch.proofs.slot.merge.Statement.{statement}
 use Rattle.stretch.proofs.slot.merge.Tie as tie
 

@@ -6,7 +6,7 @@ use borrow.Author.Needs.{needs}
 use borrow.Rule.Slice.PartMut.{putMid, same-len-mid}
 use lib.ListN.{length, length-set, length-take, length-drop, set}
 use lib.Seq.{length-take-le}
-use Rattle.stretch.specs.Slots.{slots-in}
+use Rattle.rules.specs.Stored.{slots-in}
 use Rattle.stretch.specs.Stretches.{putStretch}
 use Rattle.stretch.specs.Pushes.{store-parts}
 use Rattle.stretch.proofs.slot.store.Statement.{statement}

@@ -3,7 +3,7 @@ use Prim.Native.Nat.{_≤_}
 use native.Mathlib.Omega.{arith}
 use borrow.Author.Needs.{needs}
 use Rattle.stretch.specs.Stretches.{putStretch}
-use Rattle.stretch.specs.Slots.{slots-in}
+use Rattle.rules.specs.Stored.{slots-in}
 use Rattle.stretch.specs.Tidy.{tidy-slot}
 use Rattle.stretch.proofs.slot.tidy.Statement.{statement}
 use Rattle.stretch.proofs.slot.tidy.Tie as tie

@@ -12,18 +12,23 @@ use Rattle.feature.specs.declared.Feature.the-variants.{Spherical}
 use Rattle.distance.specs.declared.Distance.the-variants.{CentroidEuclidean}
 use Rattle.head.specs.declared.Settings.{Settings}
 use Rattle.rules.specs.declared.Nearest.the-variants.{Entry}
-use Rattle.rules.specs.Tree.{Tree, push, distTo, fresh, withEntries}
+use Rattle.rules.specs.declared.Verdict.the-variants.{Passes}
+use Rattle.rules.specs.Lists.{changeAt, occurs}
+use Rattle.rules.specs.Tree.{Tree, push, distTo, fresh, adding, withNodes, withEntries}
 use Rattle.rules.specs.Descent.{leafFor, alongPath}
 use Rattle.rules.specs.Split.{splitUp, crowned}
 use Rattle.rules.specs.Insert.{placed, grown}
 use Rattle.rules.specs.declared.Pair.{Pair}
-use Rattle.rules.specs.Rebuild.{Merging, renumber, dropped, withMerges, insertedAll}
-use Rattle.rules.specs.Refit.{route}
+use Rattle.rules.specs.Rebuild.{Merging, renumber, dropped, withMerges, rebalanced, insertedAll}
+use Rattle.rules.specs.Refit.{route, refitted}
 use Rattle.rules.specs.Check.{linked}
 use Rattle.rules.specs.Computes.{computes}
-use Rattle.laws.specs.Ownership.Owner.{takerOf, taker, mergedTo, placeIn, reinsertedTo, ownersIn, ownersAll}
+use Rattle.laws.specs.Demand.{takerOf, taker, mergedTo, placeIn, reinsertedTo, rebalancedTo, ownersIn, ownersAll, refitOwners, ownersRefit, wayUp, rowPath}
 use Rattle.bites.specs.Told.{told}
-use Rattle.bites.specs.Steps.{batch, joining, splitting, merging, rebuilding, reinserting, pouring}
+use Rattle.bites.specs.Formed.{formed}
+use Rattle.bites.specs.Spared.{sameNumbers, kept, spared}
+use Rattle.bites.specs.Fitting.{roomy, trusted}
+use Rattle.bites.specs.Steps.{batch, owning, renumbering, refittingOwners, joining, growing, splitting, merging, rebuilding, reinserting, pouring, checking}
 
 -- one channel, branching 2
 abbrev with : ℕ → ℕ → Settings
@@ -42,18 +47,28 @@ abbrev 10r : List Float
 abbrev 20r : List Float
 20r = ofBits binary64 0x4034_0000_0000_0000 ∷ []
 
+-- leaves [0, 2] and [1], three rows in entry 0, two in entry 1 and one in entry 2: no two of them can change places unseen
+abbrev six : List (List Float)
+six = 0r ∷ 10r ∷ 1r ∷ 0r ∷ 0r ∷ 10r ∷ []
+
+abbrev uneven : Tree
+uneven = insertedAll (with 2 24) six (fresh f0)
+
+abbrev theirs : List ℕ
+theirs = 0 ∷ 1 ∷ 2 ∷ 0 ∷ 0 ∷ 1 ∷ []
+
+-- the same leaves with a row in each entry
 abbrev three : List (List Float)
 three = 0r ∷ 10r ∷ 1r ∷ []
 
--- leaves [0, 2] and [1], a row in each entry
-abbrev two-leaves : Tree
-two-leaves = insertedAll (with 2 24) three (fresh f0)
+abbrev even : Tree
+even = insertedAll (with 2 24) three (fresh f0)
 
-abbrev theirs : List ℕ
-theirs = 0 ∷ 1 ∷ 2 ∷ []
+abbrev one-each : List ℕ
+one-each = 0 ∷ 1 ∷ 2 ∷ []
 
 -- a batch gives each of its rows to one entry
-batch-owns : told (batch (with 2 24) three (fresh f0)) (ownersAll (with 2 24) three (fresh f0) []) ≡ true
+batch-owns : told (batch (with 2 24) six (fresh f0)) (ownersAll (with 2 24) six (fresh f0) []) ≡ true
 unfolding computes told batch takerOf taker ownersIn ownersAll
 batch-owns = refl
 
@@ -64,24 +79,44 @@ unfolding computes told joining takerOf
 joining-owns = refl
 
 -- reinsertion gives each entry one new number
-reinserting-owns : told (reinserting (with 2 24) two-leaves) (map (reinsertedTo (with 2 24) two-leaves) theirs) ≡ true
+reinserting-owns : told (reinserting (with 2 24) uneven) (map (reinsertedTo (with 2 24) uneven) theirs) ≡ true
 unfolding computes told reinserting reinsertedTo placeIn
 reinserting-owns = refl
+
+-- each row's place names the entry that took it
+owning-forms : formed (with 2 24) three even (owning (with 2 24) three (fresh f0) []) ≡ true
+unfolding computes formed sameNumbers owning takerOf taker ownersIn
+owning-forms = refl
+
+-- reinsertion hands each entry's rows to that entry, also where others weigh as much
+renumbering-forms : formed (with 2 24) three (rebalanced (with 2 24) true even) (map (renumbering (with 2 24) even) one-each) ≡ true
+unfolding computes formed sameNumbers renumbering rebalancedTo reinsertedTo placeIn
+renumbering-forms = refl
+
+-- a refit's rows are named in its own order
+abbrev again : List (List Float)
+again = 10r ∷ 0r ∷ 1r ∷ []
+
+refitting-forms : formed (with 2 24) again (refitted (with 2 24) again even) (refittingOwners (with 2 24) again even one-each) ≡ true
+unfolding computes formed sameNumbers refittingOwners ownersRefit refitOwners reinsertedTo placeIn
+refitting-forms = refl
 
 -- a merge leaves the rows of both to one
 abbrev pair : Pair
 pair = record { cost = f0; one = 0; two = 2 }
 
 abbrev after : Merging
-after = merging (with 2 24) pair (record { entries = two-leaves .entries; alive = true ∷ true ∷ true ∷ []; count = 0; widest = f0 })
+after = merging (with 2 24) pair (record { entries = uneven .entries; alive = true ∷ true ∷ true ∷ []; count = 0; widest = f0 })
 
-merging-owns : told (dropped (after .alive) (withMerges two-leaves after)) (map (λ c. renumber (after .alive) (mergedTo pair c)) theirs) ≡ true
+merging-owns : told (dropped (after .alive) (withMerges uneven after)) (map (λ c. renumber (after .alive) (mergedTo pair c)) theirs) ≡ true
 unfolding computes told merging mergedTo
 merging-owns = refl
 
 -- each row of a refit goes to one entry, the NaN row too
-pouring-owns : told (withEntries (pouring (with 2 24) two-leaves (0r ∷ (nan ∷ []) ∷ 10r ∷ []) (blank ∷ blank ∷ blank ∷ [])) two-leaves)
-    (map (route (with 2 24) two-leaves) (0r ∷ (nan ∷ []) ∷ 10r ∷ [])) ≡ true
+abbrev refit-rows : List (List Float)
+refit-rows = 0r ∷ (nan ∷ []) ∷ 10r ∷ 0r ∷ 1r ∷ 0r ∷ []
+
+pouring-owns : told (withEntries (pouring (with 2 24) uneven refit-rows (blank ∷ blank ∷ blank ∷ [])) uneven) (map (route (with 2 24) uneven) refit-rows) ≡ true
 unfolding computes told pouring
 pouring-owns = refl
 
@@ -98,7 +133,37 @@ splitting-links : linked (crowned (with 1 24) 2 4 (splitting (with 1 24) 2 over-
 unfolding computes splitting
 splitting-links = refl
 
+-- off the row's path no node changes: leaf 0 has entries of weights 2 and 1, and a refold would round its mean otherwise
+abbrev unequal : Tree
+unequal = insertedAll (with 2 24) (0r ∷ 10r ∷ 1r ∷ 0r ∷ []) (fresh f0)
+
+off-path : occurs 0 (rowPath (with 2 24) 20r unequal) ≡ 0
+unfolding computes rowPath wayUp
+off-path = refl
+
+growing-spares : spared (with 2 24) 20r unequal (growing (with 2 24) 20r unequal) ≡ true
+unfolding computes spared kept sameNumbers growing rowPath wayUp
+growing-spares = refl
+
 -- a rebuild merges at least once: three entries, and max_leaves is 2
 rebuilding-fits : leb (length ((rebuilding (with 4 2) (grown (with 4 2) 20r (insertedAll (with 4 2) (0r ∷ 10r ∷ []) (fresh f0)))) .entries)) 2 ≡ true
 unfolding computes rebuilding
 rebuilding-fits = refl
+
+-- room: two entries where max_leaves is 1 stand in three nodes, which are all that there are
+growing-fits : roomy (with 1 1) (growing (with 1 1) 10r (insertedAll (with 1 1) (0r ∷ []) (fresh f0))) ≡ true
+unfolding computes roomy growing
+growing-fits = refl
+
+-- the check passes what the rules make
+checking-passes : checking (with 2 24) uneven ≡ Passes
+unfolding computes checking
+checking-passes = refl
+
+-- and what it passes lists each entry once: here leaf 1 lists entry 0 too
+abbrev doubled : Tree
+doubled = withNodes (changeAt (adding 0) 1 (uneven .nodes)) uneven
+
+checking-refuses : trusted (checking (with 2 24) doubled) doubled ≡ true
+unfolding computes checking trusted
+checking-refuses = refl

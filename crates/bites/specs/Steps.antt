@@ -1,4 +1,4 @@
--- The steps under test, each the rule itself.
+-- The steps under test, each the rule itself. Names that no step uses serve the edits.
 use Prim.Native.Nat.{ℕ}
 use mathlib.Core.Bool.{Bool, true, false, cond}
 use mathlib.Core.List.{List, [], _∷_, _++_, map, reverse}
@@ -9,23 +9,41 @@ use Rattle.feature.specs.declared.Summary.{Summary}
 use Rattle.head.specs.declared.Settings.{Settings}
 use Rattle.rules.specs.declared.Nearest.{Nearest}
 use Rattle.rules.specs.declared.Nearest.the-variants.{Entry, Nothing}
-use Rattle.rules.specs.Lists.{changeAt, snoc, keep, flip}
-use Rattle.rules.specs.Tree.{Node, Tree, push, distTo, nodeAt, entryAt, withNodes}
-use Rattle.rules.specs.Split.{stays, half, split}
-use Rattle.rules.specs.Insert.{absorbed, absorbedOrBegun}
+use Rattle.rules.specs.declared.Verdict.{Verdict}
+use Rattle.rules.specs.declared.Verdict.the-variants.{Passes, Fails}
 use Rattle.rules.specs.declared.Pair.{Pair}
+use Rattle.rules.specs.Lists.{changeAt, snoc, keep, flip}
+use Rattle.rules.specs.Tree.{Node, Tree, push, distTo, blankNode, nodeAt, entryAt, withNodes}
+use Rattle.rules.specs.Split.{stays, half, split}
+use Rattle.rules.specs.Insert.{absorbed, absorbedOrBegun, grown}
 use Rattle.rules.specs.Reinsert.{collected, cleared, replacedAll, reinserted}
 use Rattle.rules.specs.Refold.{refolded}
 use Rattle.rules.specs.Rebuild.{Merging, mergeOne, counted, rebuilt, inserted, insertedAll}
 use Rattle.rules.specs.Refit.{route}
+use Rattle.rules.specs.Check.{checked}
+use Rattle.laws.specs.Demand.{taker, placeIn, rebalancedTo, ownersIn, ownersRefit}
 
 unfoldable pub batch : Settings → List (List Float) → Tree → Tree
 batch s [] t = t
 batch s (x ∷ xs) t = insertedAll s (x ∷ xs) t
 
+-- the account of a batch, of a rebuild's reinsertion and of a refit
+unfoldable pub owning : Settings → List (List Float) → Tree → List ℕ → List ℕ
+owning s [] t a = a
+owning s (x ∷ xs) t a = owning s xs (inserted s x t) (ownersIn s x t a)
+
+unfoldable pub renumbering : Settings → Tree → ℕ → ℕ
+renumbering s t c = rebalancedTo s true t c
+
+unfoldable pub refittingOwners : Settings → List (List Float) → Tree → List ℕ → List ℕ
+refittingOwners s xs t a = ownersRefit s xs t a
+
 unfoldable pub joining : Settings → List Float → ℕ → Nearest → Tree → Tree
 joining s x l Nothing t = absorbedOrBegun s x l Nothing t
 joining s x l (Entry e) t = absorbedOrBegun s x l (Entry e) t
+
+unfoldable pub growing : Settings → List Float → Tree → Tree
+growing s x t = grown s x t
 
 unfoldable pub splitting : Settings → ℕ → Tree → Tree
 splitting s i t = split s i t
@@ -42,3 +60,6 @@ reinserting s t = reinserted s t
 unfoldable pub pouring : Settings → Tree → List (List Float) → List Summary → List Summary
 pouring s t [] es = es
 pouring s t (x ∷ xs) es = pouring s t xs (changeAt (push s x) (route s t x) es)
+
+unfoldable pub checking : Settings → Tree → Verdict
+checking s t = checked s t

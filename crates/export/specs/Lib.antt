@@ -2,3 +2,4 @@
 pub mod Numbers
 pub mod Given
 pub mod Seen
+pub mod Chained

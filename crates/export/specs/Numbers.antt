@@ -1,9 +1,12 @@
 -- Heads, answers and outcomes as numbers: every number of the head, and of an answer document 01's number and values.
-use Prim.Native.Nat.{ℕ}
+use Prim.Native.Nat.{ℕ, _<_}
+use mathlib.Core.Path.{_≡_, refl}
+use native.Mathlib.Omega.{arith}
 use lib.ListN.{getD}
 use Rattle.head.specs.Refusals.{numberOf, valuesOf}
 use Rattle.head.specs.declared.Head.{Head}
 use Rattle.head.specs.declared.refusal.Refusal.{Refusal}
+use Rattle.head.specs.declared.refusal.Refusal.the-variants.{Settings, Room, Tree, Shape, Empty, Full, Output}
 use Rattle.head.specs.declared.refusal.Answer.{Answer}
 use Rattle.head.specs.declared.refusal.Answer.the-variants.{Accepted, Refused}
 use Rattle.cftree.specs.declared.Outcome.{Outcome}
@@ -43,6 +46,11 @@ headNumbers h =
       abs = h .abs;
     }
 
+-- the head that goes out in numbers comes back as the same head
+pub head-back : (h : Head) → headOf (headNumbers h) ≡ h
+unfolding headOf headNumbers
+head-back h = refl
+
 abbrev pub withValues : ℕ → ℕ → ℕ → AnswerNumbers
 withValues number first second = record { first = first; second = second; number = number }
 
@@ -56,3 +64,19 @@ answerNumbers (Refused r) = refusalNumbers r
 
 unfoldable pub outcomeNumbers : Outcome → OutcomeNumbers
 outcomeNumbers o = record { head = headNumbers (o .head); answer = answerNumbers (o .answer) }
+
+some-number : (r : Refusal) → 0 < numberOf r
+unfolding numberOf
+some-number Settings = omega arith
+some-number Room = omega arith
+some-number (Tree condition) = omega arith
+some-number (Shape dim length) = omega arith
+some-number Empty = omega arith
+some-number Full = omega arith
+some-number Output = omega arith
+
+-- the number 0 says that a call was accepted
+pub zero-accepts : (a : Answer) → answerNumbers a .number ≡ 0 → a ≡ Accepted
+unfolding answerNumbers refusalNumbers
+zero-accepts Accepted e = refl
+zero-accepts (Refused r) e = let n = some-number r in absurd (omega arith)

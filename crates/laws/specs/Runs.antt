@@ -7,4 +7,4 @@ pub mod Lent
 pub mod Fitting
 pub mod OneCall
 pub mod Public
-pub mod Once
+pub mod Clears

@@ -106,6 +106,18 @@ old-number bs k h =
     go c o (inl e) = let q = alive-up bs (λ c. is k (renumber bs c)) c e in (e, sym (is-eq k (renumber bs c) (omega arith)))
     go c o (inr e) = let q = alive-down bs (λ c. is k (renumber bs c)) c e in absurd (omega arith)
 
+-- and no two old ones have the same
+pub renumber-apart : (bs : List Bool) (c d : ℕ) → getD bs c false ≡ true → getD bs d false ≡ true → renumber bs c ≡ renumber bs d → c ≡ d
+unfolding renumber countUp
+renumber-apart [] c d e f h = absurd (false≢true e)
+renumber-apart (b ∷ bs) zero zero e f h = refl
+renumber-apart (true ∷ bs) zero (suc d) e f h = absurd (omega arith)
+renumber-apart (true ∷ bs) (suc c) zero e f h = absurd (omega arith)
+renumber-apart (true ∷ bs) (suc c) (suc d) e f h = ap suc (renumber-apart bs c d e f (omega arith))
+renumber-apart (false ∷ bs) zero (suc d) e f h = absurd (false≢true e)
+renumber-apart (false ∷ bs) (suc c) zero e f h = absurd (false≢true f)
+renumber-apart (false ∷ bs) (suc c) (suc d) e f h = ap suc (renumber-apart bs c d e f h)
+
 module _ {A : Type 0} where
   pub keep-at : (bs : List Bool) (l : List A) (c : ℕ) (d : A) → length bs ≡ length l → getD bs c false ≡ true → getD (keep bs l) (renumber bs c) d ≡ getD l c d
   unfolding keep renumber countUp

@@ -1,6 +1,7 @@
 -- A row in, before any rebuild, alters one entry or adds one.
-use Prim.Native.Nat.{ℕ}
+use Prim.Native.Nat.{ℕ, _<_}
 use mathlib.Core.Path.{_≡_, refl, sym, ap, _∙_, subst}
+use mathlib.Core.Logic.{inl, inr}
 use mathlib.Core.Bool.{Bool, true, false, cond}
 use mathlib.Core.List.{List}
 use mathlib.Core.Option.{some}
@@ -12,40 +13,64 @@ use Rattle.feature.specs.Summaries.{blank}
 use Rattle.head.specs.declared.Settings.{Settings}
 use Rattle.rules.specs.declared.Nearest.{Nearest}
 use Rattle.rules.specs.declared.Nearest.the-variants.{Entry, Nothing}
-use Rattle.rules.specs.Lists.{changeAt, snoc}
+use Rattle.rules.specs.Lists.{changeAt, snoc, occurs}
 use Rattle.rules.specs.Tree.{push, distTo, Tree, nodeAt, entryAt, summed, withNodes, withEntries}
 use Rattle.rules.specs.Split.{splitUp, settled}
-use Rattle.rules.specs.Descent.{searched, leafFor, alongPath}
+use Rattle.rules.specs.Descent.{searching, searched, descended, leafFor, alongPath}
 use Rattle.rules.specs.Insert.{begun, absorbed, absorbedOrBegun, placed, grownAt, grown, absorbs}
+use Rattle.laws.specs.Demand.{winner, OneEntry, took, began}
 use Rattle.laws.specs.Counters.{splitUp-entries}
-use Rattle.laws.specs.Inserting.Grown.{climb-keeps}
+use Rattle.laws.specs.Invariant.Links.{nil}
+use Rattle.laws.specs.Inserting.Descent.{leaf-found}
+use Rattle.laws.specs.Inserting.Grown.{Hit, search-among, climb-keeps}
+use Rattle.laws.specs.Inserting.Listed.{held-in}
+use Rattle.laws.specs.Inserting.First.{emptyTree, Holding}
 
--- the entry of the row's leaf that `dist` finds nearest, or that no distance was below infinity
-unfoldable pub winner : Settings → List Float → Tree → Nearest
-winner s x t = searched (λ e. distTo s (entryAt t e) x) (nodeAt t (leafFor t (λ c. distTo s c x)) .list)
+-- the winner is an entry
+pub winner-in : (s : Settings) (x : List Float) (t : Tree) (total : ℕ) → Holding s t total → Hit (λ e. e < length (t .entries)) (winner s x t)
+winner-in s x t total (inl b) =
+    subst (λ t. Hit (λ e. e < length (t .entries)) (winner s x t)) (sym (b .0 .5)) (none-there (b .0 .0) (b .0 .1) (b .0 .2) (b .0 .3))
+  where
+    none-there : (z : Summary) (h : Float) (r m : ℕ) → Hit (λ e. e < 0) (winner s x (emptyTree z h r m))
+    none-there z h r m = unfold winner searched searching leafFor descended nodeAt in tt
+winner-in s x t total (inr w) = unfold winner in go (searched to (nodeAt t l .list)) (search-among to (nodeAt t l .list))
+  where
+    l : ℕ
+    l = leafFor t (λ c. distTo s c x)
 
--- the winner took the row in, and `abs` to it is within the threshold; or there is one entry more, and no winner is within it
-pub data OneEntry (s : Settings) (x : List Float) (t u : Tree) : Type 0 where
-  took : (e : ℕ) → winner s x t ≡ Entry e → absorbs s x e t ≡ true → u .entries ≡ changeAt (push s x) e (t .entries) → OneEntry s x t u
-  began : ((e : ℕ) → winner s x t ≡ Entry e → absorbs s x e t ≡ false) → u .entries ≡ snoc (t .entries) (push s x blank) → OneEntry s x t u
+    to : ℕ → Float
+    to e = distTo s (entryAt t e) x
+
+    go : (r : Nearest) → Hit (λ e. 0 < occurs e (nodeAt t l .list)) r → Hit (λ e. e < length (t .entries)) r
+    go Nothing a = tt
+    go (Entry e) a =
+        let q = leaf-found s t (λ c. distTo s c x) (w .0) nil nil nil (w .1 .links) in
+        held-in s (nodeAt t) (length (t .nodes)) (t .root) (length (t .entries)) (w .0) nil nil nil (w .1 .links) l e (q .0) (q .1) a .0
 
 path-list : (F : Summary → Summary) (l : ℕ) (t : Tree) (k : ℕ) → nodeAt (alongPath F l t) k .list ≡ nodeAt t k .list
 unfolding alongPath withNodes nodeAt summed
 path-list F l t k = climb-keeps F (λ m. m .list) (λ m. refl) (length (t .nodes)) (some l) (t .nodes) k
 
+-- the push along the path, which is before the search, leaves the winner as it is
+pub winner-found : (s : Settings) (x : List Float) (t : Tree)
+    → let l = leafFor t (λ c. distTo s c x) in
+    let u = alongPath (push s x) l t in
+    winner s x t ≡ searched (λ e. distTo s (entryAt u e) x) (nodeAt u l .list)
+unfolding winner alongPath withNodes entryAt
+winner-found s x t =
+    let l = leafFor t (λ c. distTo s c x) in
+    ap (searched (λ e. distTo s (getD (t .entries) e blank) x)) (sym (path-list (push s x) l t l))
+
 -- a row in alters one entry, within the threshold, or adds one
-pub grown-one : (s : Settings) (x : List Float) (t : Tree) → OneEntry s x t (grown s x t)
+pub grown-one : (s : Settings) (x : List Float) (t : Tree) (total : ℕ) → Holding s t total → OneEntry s x t (grown s x t)
 unfolding grown grownAt settled placed
-grown-one s x t = go (searched (λ e. distTo s (entryAt u e) x) (nodeAt u l .list)) found
+grown-one s x t total k = go (searched (λ e. distTo s (entryAt u e) x) (nodeAt u l .list)) (winner-found s x t)
   where
     l : ℕ
     l = leafFor t (λ c. distTo s c x)
 
     u : Tree
     u = alongPath (push s x) l t
-
-    found : winner s x t ≡ searched (λ e. distTo s (entryAt u e) x) (nodeAt u l .list)
-    found = unfold winner alongPath withNodes entryAt in ap (searched (λ e. distTo s (getD (t .entries) e blank) x)) (sym (path-list (push s x) l t l))
 
     same-test : (e : ℕ) → absorbs s x e u ≡ absorbs s x e t
     same-test e = unfold alongPath withNodes entryAt absorbs in refl
@@ -77,5 +102,5 @@ grown-one s x t = go (searched (λ e. distTo s (entryAt u e) x) (nodeAt u l .lis
             sides false = unfold begun alongPath withEntries withNodes in refl
 
         by : (b : Bool) → absorbs s x e u ≡ b → OneEntry s x t (splitUp s (length (v .nodes)) l v)
-        by true q = took e f (sym (same-test e) ∙ q) (ends ∙ kept true q)
+        by true q = took e (subst (Hit (λ e. e < length (t .entries))) f (winner-in s x t total k)) f (sym (same-test e) ∙ q) (ends ∙ kept true q)
         by false q = began (λ d g. let z : e ≡ d = cc in subst (λ y. absorbs s x y t ≡ false) z (sym (same-test e) ∙ q)) (ends ∙ kept false q)

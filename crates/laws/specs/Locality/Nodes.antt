@@ -20,6 +20,7 @@ use Rattle.rules.specs.Tree.{push, distTo, Node, Tree, nodeAt, entryAt, blankNo
 use Rattle.rules.specs.Split.{split, crowned, fitting, splitNext, splitIf, splitUp, settled}
 use Rattle.rules.specs.Descent.{searched, leafFor, climbed, alongPath}
 use Rattle.rules.specs.Insert.{begun, absorbed, absorbedOrBegun, placed, grownAt, grown, absorbs}
+use Rattle.laws.specs.Demand.{Moved, Same}
 use Rattle.laws.specs.Splitting.Nodes.{split-length, split-sum-o}
 use Rattle.laws.specs.Splitting.Extended.{extended, extend-added, extend-sum, extend-length, crowned-sum, crowned-parts}
 use Rattle.laws.specs.Counting.Lists.{change-off, change-keeps, length-change, past-end}
@@ -36,22 +37,6 @@ use Rattle.laws.specs.Inserting.Descent.{leaf-found}
 use Rattle.laws.specs.Inserting.Grown.{search-among, Counted, Placed, join, path-length, climb-keeps}
 
 -- ---- nodes
-
--- node q's parent was one of P, and is a new node now
-pub record Moved (P : ℕ → Type 0) (n : ℕ) (t u : Tree) (q : ℕ) : Type 0 where
-  pub from : ℕ
-  pub was : nodeAt t q .parent ≡ some from
-  pub on : P from
-  pub to : ℕ
-  pub new : n ≤ to
-  pub is : nodeAt u q .parent ≡ some to
-
--- summary, list and kind are as before, and so is the parent unless a split moved the node
-pub record Same (P : ℕ → Type 0) (n : ℕ) (t u : Tree) (q : ℕ) : Type 0 where
-  pub summary : nodeAt u q .summary ≡ nodeAt t q .summary
-  pub list : nodeAt u q .list ≡ nodeAt t q .list
-  pub leaf : nodeAt u q .leaf ≡ nodeAt t q .leaf
-  pub parent : (nodeAt u q .parent ≡ nodeAt t q .parent) ⊎ Moved P n t u q
 
 -- P: the nodes that may change; it has every number from n on
 abbrev pub Spared : (ℕ → Type 0) → ℕ → Tree → Tree → Type 0

@@ -2,7 +2,7 @@
 use Prim.Native.Nat.{ℕ, zero, suc, _+_, _<_}
 use mathlib.Core.Path.{_≡_, refl, sym, ap, _∙_, subst}
 use mathlib.Core.Logic.{_⊎_, inl, inr, _≢_}
-use mathlib.Core.List.{List, [], _∷_}
+use mathlib.Core.List.{List, []}
 use mathlib.Core.Option.{Option, none, some, Option·some-injective, Option·none-ne-some}
 use native.Mathlib.Omega.{arith}
 use lib.ListN.{length}
@@ -11,20 +11,12 @@ use Rattle.head.specs.declared.Settings.{Settings}
 use Rattle.rules.specs.Lists.{occurs}
 use Rattle.rules.specs.Tree.{distTo, Tree, nodeAt}
 use Rattle.rules.specs.Descent.{leafFor}
+use Rattle.laws.specs.Demand.{wayUp, rowPath}
 use Rattle.laws.specs.Counting.Count.{same?, is-other}
 use Rattle.laws.specs.Invariant.Links.{nil, Links, parent-lists}
 use Rattle.laws.specs.Inserting.Descent.{leaf-found}
 use Rattle.laws.specs.Counting.Sums.{occurs-here, occurs-cons, occurs-later}
 use Rattle.laws.specs.Invariant.Height.{height}
-
--- from a node up, parent by parent; k nodes at most
-unfoldable pub wayUp : Tree → ℕ → Option ℕ → List ℕ
-wayUp t zero o = []
-wayUp t (suc k) none = []
-wayUp t (suc k) (some n) = n ∷ wayUp t k (nodeAt t n .parent)
-
-unfoldable pub rowPath : Settings → List Float → Tree → List ℕ
-rowPath s x t = wayUp t (length (t .nodes)) (some (leafFor t (λ c. distTo s c x)))
 
 way-first : (t : Tree) (k n : ℕ) → 0 < k → 0 < occurs n (wayUp t k (some n))
 unfolding wayUp

@@ -21,9 +21,10 @@ use Rattle.laws.specs.Invariant.Links.{parent-lists}
 use Rattle.laws.specs.Invariant.Sound.{Settled, caps-of}
 use Rattle.laws.specs.Inserting.First.{emptyTree, Holding}
 use Rattle.laws.specs.Check.Both.{AtRest}
-use Rattle.laws.specs.Locality.Path.{wayUp, rowPath, path-leaf-on, path-parent-on}
-use Rattle.laws.specs.Locality.Entry.{OneEntry, grown-one}
-use Rattle.laws.specs.Locality.Nodes.{Moved, Same, grown-kept}
+use Rattle.laws.specs.Demand.{wayUp, rowPath, Moved, Same, OnPath, Local}
+use Rattle.laws.specs.Locality.Path.{path-leaf-on, path-parent-on}
+use Rattle.laws.specs.Locality.Entry.{grown-one}
+use Rattle.laws.specs.Locality.Nodes.{grown-kept}
 
 -- without a rebuild a row's insert is its growing
 pub no-rebuild : (s : Settings) (x : List Float) (t : Tree) → length ((grown s x t) .entries) ≤ s .«max_leaves» → inserted s x t ≡ grown s x t
@@ -33,16 +34,6 @@ no-rebuild s x t h = go (ltb (s .«max_leaves») (length ((grown s x t) .entries
     go : (b : Bool) → (T b → s .«max_leaves» < length ((grown s x t) .entries)) → cond b (rebuilt s (grown s x t)) (grown s x t) ≡ grown s x t
     go true f = let z = f tt in absurd (omega arith)
     go false f = refl
-
--- off the row's path, node q is as before, but for a parent link that a split moved: from a node of the path to a new node
-abbrev pub OnPath : Settings → List Float → Tree → ℕ → Type 0
-OnPath s x t q = 0 < occurs q (rowPath s x t)
-
--- One row's insert without a rebuild alters one entry, which absorbs only within the threshold, or adds one;
--- off the row's path and its splits no node changes, but for parent links that a split moves.
-pub record Local (s : Settings) (x : List Float) (t u : Tree) : Type 0 where
-  pub entry : OneEntry s x t u
-  pub node : (q : ℕ) → q < length (t .nodes) → (OnPath s x t q → ⊥) → Same (OnPath s x t) (length (t .nodes)) t u q
 
 module _ (s : Settings) (x : List Float) (t : Tree) where
   -- the path, and every number past the tree's nodes
@@ -63,7 +54,7 @@ module _ (s : Settings) (x : List Float) (t : Tree) where
       go (inr m) = inr (record { from = m .from; was = m .was; on = old (m .from) (m .was) (m .on); to = m .to; new = m .new; is = m .is })
 
   pub row-local : {rows : ℕ} → Sized s → AtRest s t rows → rows < most → Local s x t (grown s x t)
-  row-local {rows} z r h = record { entry = grown-one s x t; node = go (r .holds) }
+  row-local {rows} z r h = record { entry = grown-one s x t rows (r .holds); node = go (r .holds) }
     where
       go : Holding s t rows → (q : ℕ) → q < length (t .nodes) → (OnPath s x t q → ⊥) → Same (OnPath s x t) (length (t .nodes)) t (grown s x t) q
       go (inl b) q l off = absurd (off (on-path q l))

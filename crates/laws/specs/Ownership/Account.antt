@@ -22,11 +22,11 @@ use Rattle.laws.specs.Inserting.Grown.{Whole}
 use Rattle.laws.specs.Counting.Totals.{over-sum}
 use Rattle.laws.specs.Rebuilding.Reinsert.{entries-total}
 use Rattle.laws.specs.Check.Beneath.{beneath-weighs, beneath-once}
-use Rattle.laws.specs.Ownership.Owner.{among, rowsAmong, Account}
+use Rattle.laws.specs.Demand.{rowsAmong, Account}
 use Rattle.laws.specs.Ownership.Owned.{Owned, owner-in, over-plus, over-zero, get-occurs}
 
 pub rows-over : (l a : List ℕ) → ((c : ℕ) → occurs c l ≤ 1) → rowsAmong l a ≡ over (λ c. occurs c l) a
-unfolding rowsAmong over among
+unfolding rowsAmong over
 rows-over l [] h = refl
 rows-over l (c ∷ a) h = go (ltb 0 (occurs c l)) (ltb→lt 0 (occurs c l)) (nltb→le 0 (occurs c l)) (rows-over l a h) (h c)
   where

@@ -1,7 +1,7 @@
 -- The account through merges, reinsertion and a rebuild.
 use Prim.Native.Nat.{ℕ, zero, suc, _+_, _-_, _≤_, _<_}
 use mathlib.Core.Path.{_≡_, refl, sym, ap, _∙_, subst}
-use mathlib.Core.Logic.{_⊎_, inl, inr}
+use mathlib.Core.Logic.{_⊎_, inl, inr, _≢_}
 use mathlib.Core.Bool.{Bool, true, false, _||_, cond}
 use mathlib.Core.List.{List, [], _∷_, _++_, map, reverse, reverseAux, append-assoc}
 use native.Mathlib.Omega.{arith}
@@ -30,42 +30,52 @@ use Rattle.laws.specs.Invariant.Beneath.{Frame}
 use Rattle.laws.specs.Counting.Flags.{alive, alive-up, alive-down, is-sum, flag?}
 use Rattle.laws.specs.Invariant.Collected.{collect-sum}
 use Rattle.laws.specs.Rebuilding.Reinsert.{place-entries}
-use Rattle.laws.specs.Rebuilding.Merge.{Merged, mergeWeight, merged-one, Every, merge-all, merges-some, aw-a, aw-b, aw-o}
+use Rattle.laws.specs.Rebuilding.Merge.{Merged, mergeWeight, merged-one, Every, merge-all, merges-some, aw-a, aw-b, aw-o, up-a, up-b, entry-a, entry-o}
 use Rattle.laws.specs.Rebuilding.Pairs.{NearPair, siblings-all, every-sorted, sorted-length, leaves-single, every-map}
 use Rattle.laws.specs.Rebuilding.Cousins.{FarPair, cousins-far, cousins-some}
 use Rattle.laws.specs.Rebuilding.Rebuilt.{mergeStart, begun-alive, frame-v, begun-merged, near-far, living-first}
-use Rattle.laws.specs.Ownership.Owner.{mergedTo, mergedInto, placeIn, reinsertedTo, rebalancedTo, compactedTo, mergedByTo, mergedWithTo, rebuiltTo}
-use Rattle.laws.specs.Ownership.Owned.{Carries, carries-then, carries-same, weight-past, owner-in, merge-carries, drop-carries, place-occurs, place-get}
+use Rattle.laws.specs.Demand.{mergedTo, mergedInto, placeIn, reinsertedTo, rebalancedTo, compactedTo, mergedByTo, mergedWithTo, rebuiltTo}
+use Rattle.laws.specs.Ownership.Moved.{moved-made}
+use Rattle.laws.specs.Ownership.Owned.{Held, heldBy, Carries, carries-then, carries-same, weight-past, owner-in, merge-carries, drop-carries, place-occurs, place-get}
 use Rattle.laws.specs.Counters.{refolded-entries}
 
 -- ---- all merges
 
+-- the entries in the midst of merges: one that is merged away weighs nothing
+abbrev heldIn : Settings → Merging → Held
+heldIn s m = record { rows = alive (m .alive) (mergeWeight s m); entry = (λ c. getD (m .entries) c blank) }
+
+module _ {s : Settings} {n total : ℕ} (p : Pair) {m : Merging} (b : total ≤ most) (g : Merged s n total m) (d : p .one ≢ p .two)
+    (l : bothAlive p (m .alive) ≡ true) where
+  -- an entry that lives weighs something
+  some-at : (c : ℕ) → getD (m .alive) c false ≡ true → 1 ≤ alive (m .alive) (mergeWeight s m) c
+  some-at c e = let x = alive-up (m .alive) (mergeWeight s m) c e in let y = g .live c e .1 in omega arith
+
+  -- one merge
+  one-carries : Carries s (mergedTo p) (heldIn s m) (heldIn s (mergeOne s p m))
+  one-carries =
+      merge-carries s p d (heldIn s m) (heldIn s (mergeOne s p m)) (aw-a p b g d l) (aw-b p b g d l) (aw-o p b g d l)
+      (some-at (p .one) (up-a p b g d l)) (some-at (p .two) (up-b p b g d l)) (entry-a p b g d l) (entry-o p b g d l)
+
 -- the merges move each row with the entry that it is in
 pub merges-carry : (s : Settings) (n total : ℕ) → total ≤ most → (k : ℕ) (ps : List Pair) (m : Merging) → Merged s n total m → Every (FarPair n) ps
-    → Carries (λ c. mergedInto s k ps m c) (alive (m .alive) (mergeWeight s m)) (alive ((mergeAll s k ps m) .alive) (mergeWeight s (mergeAll s k ps m)))
+    → Carries s (λ c. mergedInto s k ps m c) (heldIn s m) (heldIn s (mergeAll s k ps m))
 unfolding mergeAll mergedInto
-merges-carry s n total b zero ps m g f = carries-same (alive (m .alive) (mergeWeight s m)) (alive (m .alive) (mergeWeight s m)) (λ c. refl)
-merges-carry s n total b (suc k) [] m g f = carries-same (alive (m .alive) (mergeWeight s m)) (alive (m .alive) (mergeWeight s m)) (λ c. refl)
+merges-carry s n total b zero ps m g f = carries-same s (heldIn s m) (heldIn s m) (λ c. refl) (λ c. refl)
+merges-carry s n total b (suc k) [] m g f = carries-same s (heldIn s m) (heldIn s m) (λ c. refl) (λ c. refl)
 merges-carry s n total b (suc k) (p ∷ ps) m g f =
     go (bothAlive p (m .alive)) refl (λ e. merges-carry s n total b k ps (mergeOne s p m) (merged-one p b g (f .0 .2) e) (f .1))
     (merges-carry s n total b (suc k) ps m g (f .1))
   where
     go : (l : Bool) → bothAlive p (m .alive) ≡ l
-        → (bothAlive p (m .alive) ≡ true → Carries (λ c. mergedInto s k ps (mergeOne s p m) c)
-        (alive ((mergeOne s p m) .alive) (mergeWeight s (mergeOne s p m))) (alive ((mergeAll s k ps (mergeOne s p m)) .alive)
-        (mergeWeight s (mergeAll s k ps (mergeOne s p m)))))
-        → Carries (λ c. mergedInto s (suc k) ps m c) (alive (m .alive) (mergeWeight s m))
-        (alive ((mergeAll s (suc k) ps m) .alive) (mergeWeight s (mergeAll s (suc k) ps m)))
-        → Carries (λ c. elim l as (λ _. ℕ) [ true ↦ mergedInto s k ps (mergeOne s p m) (mergedTo p c) | false ↦ mergedInto s (suc k) ps m c ])
-        (alive (m .alive) (mergeWeight s m))
-        (alive ((elim l as (λ _. Merging) [ true ↦ mergeAll s k ps (mergeOne s p m) | false ↦ mergeAll s (suc k) ps m ]) .alive)
-        (mergeWeight s (elim l as (λ _. Merging) [ true ↦ mergeAll s k ps (mergeOne s p m) | false ↦ mergeAll s (suc k) ps m ])))
+        → (bothAlive p (m .alive) ≡ true → Carries s (λ c. mergedInto s k ps (mergeOne s p m) c) (heldIn s (mergeOne s p m))
+        (heldIn s (mergeAll s k ps (mergeOne s p m))))
+        → Carries s (λ c. mergedInto s (suc k) ps m c) (heldIn s m) (heldIn s (mergeAll s (suc k) ps m))
+        → Carries s (λ c. elim l as (λ _. ℕ) [ true ↦ mergedInto s k ps (mergeOne s p m) (mergedTo p c) | false ↦ mergedInto s (suc k) ps m c ])
+        (heldIn s m) (heldIn s (elim l as (λ _. Merging) [ true ↦ mergeAll s k ps (mergeOne s p m) | false ↦ mergeAll s (suc k) ps m ]))
     go true e x y =
-        carries-then (mergedTo p) (λ c. mergedInto s k ps (mergeOne s p m) c) (alive (m .alive) (mergeWeight s m))
-        (alive ((mergeOne s p m) .alive) (mergeWeight s (mergeOne s p m))) (alive ((mergeAll s k ps (mergeOne s p m)) .alive)
-        (mergeWeight s (mergeAll s k ps (mergeOne s p m))))
-        (merge-carries p (f .0 .2) (alive (m .alive) (mergeWeight s m)) (alive ((mergeOne s p m) .alive) (mergeWeight s (mergeOne s p m)))
-        (aw-a p b g (f .0 .2) e) (aw-b p b g (f .0 .2) e) (aw-o p b g (f .0 .2) e)) (x e)
+        carries-then s (mergedTo p) (λ c. mergedInto s k ps (mergeOne s p m) c) (heldIn s m) (heldIn s (mergeOne s p m))
+        (heldIn s (mergeAll s k ps (mergeOne s p m))) (one-carries p b g (f .0 .2) e) (x e)
     go false e x y = y
 
 -- ---- reinsertion
@@ -134,9 +144,10 @@ module _ (s : Settings) (t : Tree) {R : ℕ → ℕ} (g : Frame (nodeAt t) (leng
           subst (λ d. entryAt (reinserted s t) (placeIn order c) ≡ getD (map (entryAt t) order) (placeIn order c) d) (sym end)
           (unfold entryAt in ap (λ l. getD l (placeIn order c) blank) entries-are)
 
-  pub reinsert-carries : Carries (λ c. reinsertedTo s t c) (entryWeight t) (entryWeight (reinserted s t))
+  reinserted-rows : (a : List ℕ) → ((c : ℕ) → entryWeight t c ≡ occurs c a) → (k : ℕ) → entryWeight (reinserted s t) k
+      ≡ occurs k (map (λ c. reinsertedTo s t c) a)
   unfolding reinsertedTo
-  reinsert-carries a h k =
+  reinserted-rows a h k =
       weight-at k ∙ h (getD (reverse (collected t (length (t .nodes)) (t .root ∷ []))) k (length (t .entries)))
       ∙ sym (place-occurs (reverse (collected t (length (t .nodes)) (t .root ∷ []))) (length (t .entries)) k a
       (λ i o. let q = owner-in t a h i o in (once i ∙ below-in i (length (t .entries)) q, (λ e. clash i q e))))
@@ -144,12 +155,28 @@ module _ (s : Settings) (t : Tree) {R : ℕ → ℕ} (g : Frame (nodeAt t) (leng
       clash : (i : ℕ) → i < length (t .entries) → i ≡ length (t .entries) → ⊥
       clash i q e = omega arith
 
+  -- two entries go to two numbers
+  reinserted-apart : (c d : ℕ) → c < length (t .entries) → d < length (t .entries) → reinsertedTo s t c ≡ reinsertedTo s t d → c ≡ d
+  unfolding reinsertedTo
+  reinserted-apart c d h k e = sym (there c h) ∙ ap (λ i. getD order i (length (t .entries))) e ∙ there d k
+    where
+      there : (c : ℕ) → c < length (t .entries) → getD order (placeIn order c) (length (t .entries)) ≡ c
+      there c h = place-get order c (length (t .entries)) (let a = once c in let b = below-in c (length (t .entries)) h in omega arith)
+
+  -- reinsertion
+  pub reinsert-carries : Carries s (λ c. reinsertedTo s t c) (heldBy t) (heldBy (reinserted s t))
+  reinsert-carries a h = (
+    reinserted-rows a h,
+    (λ ys m. moved-made (λ c. reinsertedTo s t c) (entryAt t) (entryAt (reinserted s t)) a (λ c o. reinserted-at c (owner-in t a h c o))
+        (λ c d o q e. reinserted-apart c d (owner-in t a h c o) (owner-in t a h d q) e) m),
+  )
+
 -- ---- the rebuild
 
 module _ {s : Settings} {t : Tree} {R : ℕ → ℕ} {total : ℕ} (g : Settled s t R total) (n : Counted t total) where
-  begin-carries : Carries (λ c. c) (entryWeight t) (alive ((mergeStart t) .alive) (mergeWeight s (mergeStart t)))
+  begin-carries : Carries s (λ c. c) (heldBy t) (heldIn s (mergeStart t))
   unfolding mergeWeight entryWeight entryAt
-  begin-carries = carries-same (entryWeight t) (alive ((mergeStart t) .alive) (mergeWeight s (mergeStart t))) (λ c. go c (lt? c (length (t .entries))))
+  begin-carries = carries-same s (heldBy t) (heldIn s (mergeStart t)) (λ c. go c (lt? c (length (t .entries)))) (λ c. refl)
     where
       go : (c : ℕ) → (c < length (t .entries)) ⊎ (length (t .entries) ≤ c) → alive ((mergeStart t) .alive) (mergeWeight s (mergeStart t)) c ≡ entryWeight t c
       go c (inl h) = begun-alive g n (mergeWeight s (mergeStart t)) c h
@@ -161,8 +188,10 @@ module _ {s : Settings} {t : Tree} {R : ℕ → ℕ} {total : ℕ} (g : Settled 
           off (inr e) = alive-down ((mergeStart t) .alive) (mergeWeight s (mergeStart t)) c e ∙ sym (weight-past t c h)
 
   module _ {m : Merging} (d : Merged s (length (t .entries)) total m) (h : 0 < length (t .entries)) where
-    drop-moves : Carries (renumber (m .alive)) (alive (m .alive) (mergeWeight s m)) (entryWeight (dropped (m .alive) (withMerges t m)))
-    drop-moves a k = drop-carries s (withMerges t m) (m .alive) len a (λ c. same c ∙ k c)
+    drop-moves : Carries s (renumber (m .alive)) (heldIn s m) (heldBy (dropped (m .alive) (withMerges t m)))
+    drop-moves a k =
+        let (u, v) = drop-carries s (withMerges t m) (m .alive) len a (λ c. same c ∙ k c) in
+        (u, (λ ys x. v ys (unfold withMerges entryAt in x)))
       where
         len : length (m .alive) ≡ length ((withMerges t m) .entries)
         len = unfold withMerges in (d .len-a ∙ sym (d .len-e))
@@ -170,47 +199,50 @@ module _ {s : Settings} {t : Tree} {R : ℕ → ℕ} {total : ℕ} (g : Settled 
         same : (c : ℕ) → alive (m .alive) (entryWeight (withMerges t m)) c ≡ alive (m .alive) (mergeWeight s m) c
         same c = unfold withMerges entryWeight entryAt mergeWeight alive in refl
 
-    again-moves : Carries (λ c. reinsertedTo s (withMerged 0 (dropped (m .alive) (withMerges t m))) c) (entryWeight (dropped (m .alive) (withMerges t m)))
-        (entryWeight (reinserted s (withMerged 0 (dropped (m .alive) (withMerges t m)))))
+    again-moves : Carries s (λ c. reinsertedTo s (withMerged 0 (dropped (m .alive) (withMerges t m))) c) (heldBy (dropped (m .alive) (withMerges t m)))
+        (heldBy (reinserted s (withMerged 0 (dropped (m .alive) (withMerges t m)))))
     again-moves a k =
-        reinsert-carries s (withMerged 0 (dropped (m .alive) (withMerges t m))) {R = R} (unfold withMerged nodeAt in frame-v g n d h) a (λ c. same c ∙ k c)
+        let (u, v) = reinsert-carries s (withMerged 0 (dropped (m .alive) (withMerges t m))) {R = R} (unfold withMerged nodeAt in frame-v g n d h) a
+        (λ c. same c ∙ k c) in
+        (u, (λ ys x. v ys (unfold withMerged entryAt in x)))
       where
         same : (c : ℕ) → entryWeight (withMerged 0 (dropped (m .alive) (withMerges t m))) c ≡ entryWeight (dropped (m .alive) (withMerges t m)) c
         same c = unfold withMerged entryWeight entryAt in refl
 
-    balance-moves : (across : Bool) → Carries (λ c. rebalancedTo s across (dropped (m .alive) (withMerges t m)) c)
-        (entryWeight (dropped (m .alive) (withMerges t m))) (entryWeight (rebalanced s across (dropped (m .alive) (withMerges t m))))
+    balance-moves : (across : Bool) → Carries s (λ c. rebalancedTo s across (dropped (m .alive) (withMerges t m)) c)
+        (heldBy (dropped (m .alive) (withMerges t m))) (heldBy (rebalanced s across (dropped (m .alive) (withMerges t m))))
     unfolding rebalanced rebalancedTo
     balance-moves across = go (across || leb (s .«max_leaves») ((dropped (m .alive) (withMerges t m)) .merged))
       where
-        go : (b : Bool) → Carries (λ c. cond b (reinsertedTo s (withMerged 0 (dropped (m .alive) (withMerges t m))) c) c)
-            (entryWeight (dropped (m .alive) (withMerges t m)))
-            (entryWeight (cond b (reinserted s (withMerged 0 (dropped (m .alive) (withMerges t m)))) (dropped (m .alive) (withMerges t m))))
+        go : (b : Bool) → Carries s (λ c. cond b (reinsertedTo s (withMerged 0 (dropped (m .alive) (withMerges t m))) c) c)
+            (heldBy (dropped (m .alive) (withMerges t m)))
+            (heldBy (cond b (reinserted s (withMerged 0 (dropped (m .alive) (withMerges t m)))) (dropped (m .alive) (withMerges t m))))
         go true = again-moves
-        go false = carries-same (entryWeight (dropped (m .alive) (withMerges t m))) (entryWeight (dropped (m .alive) (withMerges t m))) (λ c. refl)
+        go false = carries-same s (heldBy (dropped (m .alive) (withMerges t m))) (heldBy (dropped (m .alive) (withMerges t m))) (λ c. refl)
+            (λ c. refl)
 
     compact-moves : (across : Bool) → 1 ≤ m .count
-        → Carries (λ c. compactedTo s across t m c) (alive (m .alive) (mergeWeight s m)) (entryWeight (compacted s across t m))
+        → Carries s (λ c. compactedTo s across t m c) (heldIn s m) (heldBy (compacted s across t m))
     unfolding compacted compactedTo
     compact-moves across k = go (eqb (m .count) 0) refl
       where
-        go : (b : Bool) → eqb (m .count) 0 ≡ b → Carries (λ c. cond b c (rebalancedTo s across (dropped (m .alive) (withMerges t m)) (renumber (m .alive) c)))
-            (alive (m .alive) (mergeWeight s m)) (entryWeight (cond b t (rebalanced s across (dropped (m .alive) (withMerges t m)))))
+        go : (b : Bool) → eqb (m .count) 0 ≡ b → Carries s (λ c. cond b c (rebalancedTo s across (dropped (m .alive) (withMerges t m)) (renumber (m .alive) c)))
+            (heldIn s m) (heldBy (cond b t (rebalanced s across (dropped (m .alive) (withMerges t m)))))
         go true e = let z = eq-test (m .count) 0 true e .0 refl in absurd (omega arith)
         go false e =
-            carries-then (renumber (m .alive)) (λ c. rebalancedTo s across (dropped (m .alive) (withMerges t m)) c) (alive (m .alive) (mergeWeight s m))
-            (entryWeight (dropped (m .alive) (withMerges t m))) (entryWeight (rebalanced s across (dropped (m .alive) (withMerges t m)))) drop-moves
+            carries-then s (renumber (m .alive)) (λ c. rebalancedTo s across (dropped (m .alive) (withMerges t m)) c) (heldIn s m)
+            (heldBy (dropped (m .alive) (withMerges t m))) (heldBy (rebalanced s across (dropped (m .alive) (withMerges t m)))) drop-moves
             (balance-moves across)
 
   by-moves : (across : Bool) (ps : List Pair) → 1 ≤ s .«max_leaves» → s .«max_leaves» < length (t .entries) → 0 < length ps
       → Every (FarPair (length (t .entries))) ps
-      → Carries (λ c. mergedByTo s across ps t c) (entryWeight t) (entryWeight (mergedBy s across ps t))
+      → Carries s (λ c. mergedByTo s across ps t c) (heldBy t) (heldBy (mergedBy s across ps t))
   unfolding mergedBy mergedByTo
   by-moves across ps one more some-ps far =
-      carries-then (λ c. mergedInto s (length (t .entries) - target (s .«max_leaves»)) (sorted ps) (mergeStart t) c) (λ c. compactedTo s across t m c)
-      (entryWeight t) (alive (m .alive) (mergeWeight s m)) (entryWeight (compacted s across t m))
-      (carries-then (λ c. c) (λ c. mergedInto s (length (t .entries) - target (s .«max_leaves»)) (sorted ps) (mergeStart t) c) (entryWeight t)
-      (alive ((mergeStart t) .alive) (mergeWeight s (mergeStart t))) (alive (m .alive) (mergeWeight s m))
+      carries-then s (λ c. mergedInto s (length (t .entries) - target (s .«max_leaves»)) (sorted ps) (mergeStart t) c) (λ c. compactedTo s across t m c)
+      (heldBy t) (heldIn s m) (heldBy (compacted s across t m))
+      (carries-then s (λ c. c) (λ c. mergedInto s (length (t .entries) - target (s .«max_leaves»)) (sorted ps) (mergeStart t) c) (heldBy t)
+      (heldIn s (mergeStart t)) (heldIn s m)
       begin-carries (merges-carry s (length (t .entries)) total (g .exact .small) (length (t .entries) - target (s .«max_leaves»)) (sorted ps) (mergeStart t)
       (begun-merged g n) all-far))
       (compact-moves merged (omega arith) across (first (sorted ps) (sorted-length ps) all-far))
@@ -235,23 +267,25 @@ module _ {s : Settings} {t : Tree} {R : ℕ → ℕ} {total : ℕ} (g : Settled 
       first (q ∷ qs) e a = merges-some s (length (t .entries) - target (s .«max_leaves»)) q qs (mergeStart t) enough (living-first g n q (a .0))
 
   with-moves : 1 ≤ s .«max_leaves» → s .«max_leaves» < length (t .entries)
-      → Carries (λ c. mergedWithTo s (siblings s t (t .nodes)) t c) (entryWeight t) (entryWeight (mergedWith s (siblings s t (t .nodes)) t))
+      → Carries s (λ c. mergedWithTo s (siblings s t (t .nodes)) t c) (heldBy t) (heldBy (mergedWith s (siblings s t (t .nodes)) t))
   unfolding mergedWith mergedWithTo
   with-moves one more = go (siblings s t (t .nodes)) refl (siblings-all s t)
     where
       go : (ps : List Pair) → siblings s t (t .nodes) ≡ ps → Every (NearPair s t) ps
-          → Carries (λ c. mergedWithTo s ps t c) (entryWeight t) (entryWeight (mergedWith s ps t))
+          → Carries s (λ c. mergedWithTo s ps t c) (heldBy t) (heldBy (mergedWith s ps t))
       go [] e a =
           by-moves true (cousins s t (t .nodes)) one more (cousins-some t (g .links) (leaves-single s t R nil nil nil (g .links) (ap (λ z. length z) e))
           (omega arith)) (cousins-far t (g .links) (t .nodes))
       go (p ∷ ps) e a = by-moves false (p ∷ ps) one more (omega arith) (every-map (NearPair s t) (FarPair (length (t .entries))) (p ∷ ps) (near-far g n) a)
 
-  pub rebuild-moves : 1 ≤ s .«max_leaves» → s .«max_leaves» < length (t .entries) → Carries (λ c. rebuiltTo s t c) (entryWeight t) (entryWeight (rebuilt s t))
+  pub rebuild-moves : 1 ≤ s .«max_leaves» → s .«max_leaves» < length (t .entries) → Carries s (λ c. rebuiltTo s t c) (heldBy t) (heldBy (rebuilt s t))
   unfolding rebuilt rebuiltTo
-  rebuild-moves one more a h c = same c ∙ with-moves one more a h c
+  rebuild-moves one more =
+      carries-then s (λ c. mergedWithTo s (siblings s t (t .nodes)) t c) (λ c. c) (heldBy t) (heldBy v) (heldBy (counted (refolded s v))) (with-moves one more)
+      (carries-same s (heldBy v) (heldBy (counted (refolded s v))) (λ c. unfold entryWeight in ap (λ e. rowsIn e) (same c)) same)
     where
       v : Tree
       v = mergedWith s (siblings s t (t .nodes)) t
 
-      same : (c : ℕ) → entryWeight (counted (refolded s v)) c ≡ entryWeight v c
-      same c = unfold counted entryWeight entryAt in ap (λ l. rowsIn (getD l c blank)) (refolded-entries s v)
+      same : (c : ℕ) → entryAt (counted (refolded s v)) c ≡ entryAt v c
+      same c = unfold counted entryAt in ap (λ l. getD l c blank) (refolded-entries s v)

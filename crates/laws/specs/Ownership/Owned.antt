@@ -1,6 +1,6 @@
 -- Each entry weighs as many rows as the account gives it: kept by each step.
 use Prim.Native.Nat.{ℕ, zero, suc, _+_, _*_, _≤_, _<_}
-use mathlib.Core.Path.{_≡_, refl, sym, ap, _∙_}
+use mathlib.Core.Path.{_≡_, refl, sym, ap, _∙_, subst}
 use mathlib.Core.Logic.{_⊎_, inl, inr, _≢_}
 use mathlib.Core.Bool.{Bool, true, false, cond}
 use mathlib.Core.List.{List, [], _∷_, map, map-map, map-id}
@@ -10,12 +10,13 @@ use lib.Dec.{eqb}
 use lib.ListN.{length, getD}
 use lib.Ieee.{Float}
 use Rattle.binary64.specs.Whole.{most}
+use Rattle.feature.specs.declared.Summary.{Summary}
 use Rattle.feature.specs.Summaries.{blank}
 use Rattle.head.specs.declared.Settings.{Settings}
 use Rattle.rules.specs.declared.Nearest.{Nearest}
 use Rattle.rules.specs.declared.Nearest.the-variants.{Entry, Nothing}
 use Rattle.rules.specs.Lists.{changeAt, snoc, countUp, occurs}
-use Rattle.rules.specs.Tree.{push, Tree, entryAt, withNodes, withEntries}
+use Rattle.rules.specs.Tree.{push, merge, Tree, entryAt, withNodes, withEntries}
 use Rattle.rules.specs.Insert.{begun, absorbed, absorbedOrBegun, absorbs}
 use Rattle.rules.specs.declared.Pair.{Pair}
 use Rattle.rules.specs.Rebuild.{renumber, dropped}
@@ -28,23 +29,41 @@ use Rattle.laws.specs.Counting.Lists.{change-at, change-off, snoc-at, sn
 use Rattle.laws.specs.Invariant.Sound.{entryWeight}
 use Rattle.laws.specs.Counting.Only.{only, only-at, only-off}
 use Rattle.laws.specs.Counting.Totals.{over-sum, sum-only}
-use Rattle.laws.specs.Counting.Flags.{alive, alive-up, alive-down, flag?, renumber-sum, keep-at, keep-length, up-in}
-use Rattle.laws.specs.Ownership.Owner.{takerOf, mergedTo, placeIn}
+use Rattle.laws.specs.Counting.Flags.{alive, alive-up, alive-down, flag?, renumber-sum, renumber-apart, keep-at, keep-length, up-in}
+use Rattle.laws.specs.Demand.{takerOf, mergedTo, placeIn, owns, Made}
+use Rattle.laws.specs.Ownership.Made.{AllMade}
+use Rattle.laws.specs.Ownership.Moved.{moved-made, to-one, to-two, to-other, merge-made}
 
 -- the account a gives entry c as many rows as it weighs; what is no entry weighs nothing and owns nothing
 abbrev pub Owned : Tree → List ℕ → Type 0
 Owned t a = (c : ℕ) → entryWeight t c ≡ occurs c a
 
--- f moves weights v to weights w: an account of v, moved by f, is one of w
-abbrev pub Carries : (ℕ → ℕ) → (ℕ → ℕ) → (ℕ → ℕ) → Type 0
-Carries f v w = (a : List ℕ) → ((c : ℕ) → v c ≡ occurs c a) → (c : ℕ) → w c ≡ occurs c (map f a)
+-- entries by number: how many rows each weighs, and its summary
+pub record Held : Type 0 where
+  pub rows : ℕ → ℕ
+  pub entry : ℕ → Summary
 
-pub carries-then : (f g v w x : ℕ → ℕ) → Carries f v w → Carries g w x → Carries (λ c. g (f c)) v x
-carries-then f g v w x p q a h c = q (map f a) (p a h) c ∙ ap (λ l. occurs c l) (map-map g f a)
+abbrev pub heldBy : Tree → Held
+heldBy t = record { rows = entryWeight t; entry = entryAt t }
 
--- weights that are the same, number by number
-pub carries-same : (v w : ℕ → ℕ) → ((c : ℕ) → w c ≡ v c) → Carries (λ c. c) v w
-carries-same v w e a h c = e c ∙ h c ∙ ap (λ l. occurs c l) (sym (map-id a))
+-- f moves the entries X to the entries Y: an account of X, moved by f, is one of Y, and entries that are made of their rows stay so
+abbrev pub Carries : Settings → (ℕ → ℕ) → Held → Held → Type 0
+Carries s f X Y =
+    (a : List ℕ) → ((c : ℕ) → X .rows c ≡ occurs c a)
+    → ((c : ℕ) → Y .rows c ≡ occurs c (map f a)) × ((ys : List (List Float)) → AllMade s ys (X .entry) a → AllMade s ys (Y .entry) (map f a))
+
+pub carries-then : (s : Settings) (f g : ℕ → ℕ) (X Y Z : Held) → Carries s f X Y → Carries s g Y Z → Carries s (λ c. g (f c)) X Z
+carries-then s f g X Y Z p q a h =
+    let (u, m) = p a h in
+    let (v, n) = q (map f a) u in
+    ((λ c. v c ∙ ap (λ l. occurs c l) (map-map g f a)), (λ ys k. subst (λ l. AllMade s ys (Z .entry) l) (map-map g f a) (n ys (m ys k))))
+
+-- the same, number by number
+pub carries-same : (s : Settings) (X Y : Held) → ((c : ℕ) → Y .rows c ≡ X .rows c) → ((c : ℕ) → Y .entry c ≡ X .entry c) → Carries s (λ c. c) X Y
+carries-same s X Y e k a h = (
+  (λ c. e c ∙ h c ∙ ap (λ l. occurs c l) (sym (map-id a))),
+  (λ ys m. subst (λ l. AllMade s ys (Y .entry) l) (sym (map-id a)) (λ c o. subst (λ x. Made s ys x (owns a c)) (sym (k c)) (m c o))),
+)
 
 pub weight-past : (t : Tree) (c : ℕ) → length (t .entries) ≤ c → entryWeight t c ≡ 0
 unfolding entryWeight entryAt
@@ -126,58 +145,28 @@ unfolding over
 over-zero [] = refl
 over-zero (i ∷ a) = let h = over-zero a in omega arith
 
-module _ (p : Pair) (d : p .one ≢ p .two) where
-  at-two : (i : ℕ) → i ≡ p .two → mergedTo p i ≡ p .one
-  unfolding mergedTo
-  at-two i e = go (eqb i (p .two)) refl
-    where
-      go : (b : Bool) → eqb i (p .two) ≡ b → cond b (p .one) i ≡ p .one
-      go true q = refl
-      go false q = absurd (eq-test i (p .two) false q .1 refl e)
-
-  off-two : (i : ℕ) → i ≢ p .two → mergedTo p i ≡ i
-  unfolding mergedTo
-  off-two i e = go (eqb i (p .two)) refl
-    where
-      go : (b : Bool) → eqb i (p .two) ≡ b → cond b (p .one) i ≡ i
-      go true q = absurd (e (eq-test i (p .two) true q .0 refl))
-      go false q = refl
-
-  pub merge-carries : (v w : ℕ → ℕ) → w (p .one) ≡ v (p .one) + v (p .two) → w (p .two) ≡ 0 → ((c : ℕ) → c ≢ p .one → c ≢ p .two → w c ≡ v c)
-      → Carries (mergedTo p) v w
-  merge-carries v w h1 h2 h3 a h c = go (same? c (p .one)) (same? c (p .two))
-    where
-      go : (c ≡ p .one) ⊎ (c ≢ p .one) → (c ≡ p .two) ⊎ (c ≢ p .two) → w c ≡ occurs c (map (mergedTo p) a)
-      go (inl x) (inl y) = absurd (d (sym x ∙ y))
-      go (inl x) (inr y) =
-          ap w x ∙ h1 ∙ ap (λ z. z + v (p .two)) (h (p .one) ∙ occurs-over (p .one) a) ∙ ap (λ z. over (is (p .one)) a + z) (h (p .two)
-          ∙ occurs-over (p .two) a)
-          ∙ sym (map-occurs (mergedTo p) c a ∙ over-same (λ i. is c (mergedTo p i)) (λ i. is (p .one) i + is (p .two) i) a (λ i o. each i (same? i (p .two)))
-          ∙ over-plus (is (p .one)) (is (p .two)) a)
-        where
-          each : (i : ℕ) → (i ≡ p .two) ⊎ (i ≢ p .two) → is c (mergedTo p i) ≡ is (p .one) i + is (p .two) i
-          each i (inl e) =
-              let f : is c (mergedTo p i) ≡ 1 = is-same c (mergedTo p i) (x ∙ sym (at-two i e)) in
-              let g = is-other (p .one) i (λ z. d (z ∙ e)) in
-              let k = is-same (p .two) i (sym e) in
-              omega arith
-          each i (inr e) =
-              let f : is c (mergedTo p i) ≡ is (p .one) i = ap (λ z. is c z) (off-two i e) ∙ ap (λ z. is z i) x in
-              let k = is-other (p .two) i (λ z. e (sym z)) in
-              omega arith
-      go (inr x) (inl y) =
-          ap w y ∙ h2 ∙ sym (map-occurs (mergedTo p) c a ∙ over-same (λ i. is c (mergedTo p i)) (λ _. 0) a (λ i o. each i (same? i (p .two))) ∙ over-zero a)
-        where
-          each : (i : ℕ) → (i ≡ p .two) ⊎ (i ≢ p .two) → is c (mergedTo p i) ≡ 0
-          each i (inl e) = is-other c (mergedTo p i) (λ z. x (z ∙ at-two i e))
-          each i (inr e) = is-other c (mergedTo p i) (λ z. e (sym (off-two i e) ∙ sym z ∙ y))
-      go (inr x) (inr y) =
-          h3 c x y ∙ h c ∙ occurs-over c a
-          ∙ sym (map-occurs (mergedTo p) c a ∙ over-same (λ i. is c (mergedTo p i)) (is c) a (λ i o. each i (same? i (p .two))))
-        where
-          each : (i : ℕ) → (i ≡ p .two) ⊎ (i ≢ p .two) → is c (mergedTo p i) ≡ is c i
-          each i (inl e) = ap (λ z. is c z) (at-two i e) ∙ is-other c (p .one) x ∙ sym (is-other c i (λ z. y (z ∙ e)))
-          each i (inr e) = ap (λ z. is c z) (off-two i e)
+-- the second of two entries that weigh something is merged into the first
+pub merge-carries : (s : Settings) (p : Pair) → p .one ≢ p .two → (X Y : Held) → Y .rows (p .one) ≡ X .rows (p .one) + X .rows (p .two) → Y .rows (p .two) ≡ 0
+    → ((c : ℕ) → c ≢ p .one → c ≢ p .two → Y .rows c ≡ X .rows c) → 1 ≤ X .rows (p .one) → 1 ≤ X .rows (p .two)
+    → Y .entry (p .one) ≡ merge s (X .entry (p .one)) (X .entry (p .two)) → ((c : ℕ) → c ≢ p .one → Y .entry c ≡ X .entry c)
+    → Carries s (mergedTo p) X Y
+merge-carries s p d X Y h1 h2 h3 l1 l2 e1 e2 a h = (
+  (λ c. go c (same? c (p .one)) (same? c (p .two))),
+  (λ ys m. merge-made p d (X .entry) (Y .entry) a (let q = h (p .one) in omega arith) (let q = h (p .two) in omega arith) e1 e2 m),
+)
+  where
+    go : (c : ℕ) → (c ≡ p .one) ⊎ (c ≢ p .one) → (c ≡ p .two) ⊎ (c ≢ p .two) → Y .rows c ≡ occurs c (map (mergedTo p) a)
+    go c (inl x) (inl y) = absurd (d (sym x ∙ y))
+    go c (inl x) (inr y) =
+        ap (Y .rows) x ∙ h1 ∙ ap (λ z. z + X .rows (p .two)) (h (p .one) ∙ occurs-over (p .one) a) ∙ ap (λ z. over (is (p .one)) a + z) (h (p .two)
+        ∙ occurs-over (p .two) a)
+        ∙ sym (map-occurs (mergedTo p) c a ∙ over-same (λ i. is c (mergedTo p i)) (λ i. is (p .one) i + is (p .two) i) a (λ i o. to-one p d c x i)
+        ∙ over-plus (is (p .one)) (is (p .two)) a)
+    go c (inr x) (inl y) =
+        ap (Y .rows) y ∙ h2 ∙ sym (map-occurs (mergedTo p) c a ∙ over-same (λ i. is c (mergedTo p i)) (λ _. 0) a (λ i o. to-two p d c x y i) ∙ over-zero a)
+    go c (inr x) (inr y) =
+        h3 c x y ∙ h c ∙ occurs-over c a
+        ∙ sym (map-occurs (mergedTo p) c a ∙ over-same (λ i. is c (mergedTo p i)) (is c) a (λ i o. to-other p d c x y i))
 
 -- ---- dropping
 
@@ -198,8 +187,8 @@ module _ (s : Settings) (u : Tree) (bs : List Bool) (len : length bs ≡ length 
   abbrev W : ℕ → ℕ
   W = entryWeight (dropped bs u)
 
-  pub drop-carries : Carries (renumber bs) (alive bs (entryWeight u)) (entryWeight (dropped bs u))
-  drop-carries a h k = sym (
+  drop-rows : (a : List ℕ) → ((c : ℕ) → alive bs (entryWeight u) c ≡ occurs c a) → (k : ℕ) → entryWeight (dropped bs u) k ≡ occurs k (map (renumber bs) a)
+  drop-rows a h k = sym (
       map-occurs (renumber bs) k a
       ∙ over-sum (λ i. is k (renumber bs i)) (length bs) a inside
       ∙ sum-same (alive bs (λ i. only (W k) k (renumber bs i))) (λ i. occurs i a * is k (renumber bs i)) (length bs) (λ i q. each i (flag? bs i))
@@ -234,6 +223,18 @@ module _ (s : Settings) (u : Tree) (bs : List Bool) (len : length bs ≡ length 
         where
           clash : (j : ℕ) → j < countUp bs → j ≡ k → ⊥
           clash j r z = omega arith
+
+  -- the entries whose flag is up, renumbered
+  pub drop-carries : Carries s (renumber bs) (record { rows = alive bs (entryWeight u); entry = entryAt u }) (heldBy (dropped bs u))
+  drop-carries a h = (
+    drop-rows a h,
+    (λ ys m. moved-made (renumber bs) (entryAt u) (entryAt (dropped bs u)) a (λ c o. dropped-to c (up c o (flag? bs c)))
+        (λ c d o q e. renumber-apart bs c d (up c o (flag? bs c)) (up d q (flag? bs d)) e) m),
+  )
+    where
+      up : (c : ℕ) → 0 < occurs c a → (getD bs c false ≡ true) ⊎ (getD bs c false ≡ false) → getD bs c false ≡ true
+      up c o (inl e) = e
+      up c o (inr e) = let p = alive-down bs (entryWeight u) c e in let q = h c in absurd (omega arith)
 
 -- ---- places in a list
 

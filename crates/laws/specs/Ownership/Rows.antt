@@ -4,7 +4,6 @@ use mathlib.Core.Path.{_≡_, refl, sym, ap, _∙_, subst}
 use mathlib.Core.Logic.{inl, inr}
 use mathlib.Core.Bool.{Bool, true, false, cond}
 use mathlib.Core.List.{List, [], map}
-use mathlib.Core.Option.{some}
 use native.Mathlib.Omega.{arith}
 use lib.Dec.{T, ltb, eqb, ltb→lt}
 use lib.ListN.{length, getD}
@@ -16,24 +15,22 @@ use Rattle.head.specs.declared.Settings.{Settings}
 use Rattle.rules.specs.declared.Nearest.{Nearest}
 use Rattle.rules.specs.declared.Nearest.the-variants.{Entry, Nothing}
 use Rattle.rules.specs.Lists.{changeAt, snoc, occurs}
-use Rattle.rules.specs.Tree.{push, distTo, Tree, nodeAt, entryAt, fresh, withNodes, withEntries, summed}
-use Rattle.rules.specs.Descent.{searched, descended, leafFor, climbed, alongPath, searching}
+use Rattle.rules.specs.Tree.{push, distTo, Tree, nodeAt, entryAt, fresh, withNodes, withEntries}
+use Rattle.rules.specs.Descent.{searched, leafFor, alongPath}
 use Rattle.rules.specs.Insert.{begun, absorbed, placed, absorbedOrBegun, grownAt, grown, absorbs}
 use Rattle.rules.specs.Split.{settled}
 use Rattle.rules.specs.Rebuild.{rebuilt, inserted}
 use Rattle.rules.specs.Check.{rowsIn}
 use Rattle.laws.specs.Invariant.Weights.{IsExact}
 use Rattle.laws.specs.Counters.{splitUp-entries}
-use Rattle.laws.specs.Inserting.Grown.{Hit, Whole, search-among, climb-keeps}
+use Rattle.laws.specs.Inserting.Grown.{Hit, Whole}
 use Rattle.laws.specs.Counting.Count.{is, eq-test}
 use Rattle.laws.specs.Counting.Sums.{occurs-snoc, sum-at}
-use Rattle.laws.specs.Invariant.Links.{nil}
 use Rattle.laws.specs.Invariant.Sound.{entryWeight, Caps}
-use Rattle.laws.specs.Inserting.Descent.{leaf-found}
-use Rattle.laws.specs.Inserting.Listed.{held-in}
-use Rattle.laws.specs.Inserting.First.{Holding, emptyTree, grown-holds}
+use Rattle.laws.specs.Inserting.First.{Holding, grown-holds}
 use Rattle.laws.specs.Room.Kept.{Kept}
-use Rattle.laws.specs.Ownership.Owner.{takerOf, taker, rebuiltTo, ownersIn}
+use Rattle.laws.specs.Demand.{takerOf, taker, rebuiltTo, ownersIn}
+use Rattle.laws.specs.Locality.Entry.{winner-in, winner-found}
 use Rattle.laws.specs.Ownership.Owned.{Owned, weight-past, joined-one}
 use Rattle.laws.specs.Ownership.Merged.{rebuild-moves}
 
@@ -56,27 +53,7 @@ module _ (s : Settings) (x : List Float) (t : Tree) (total : ℕ) (small : total
   exact (inr w) c h = (w .1 .exact .at-entry c h, let a = sum-at (entryWeight t) c (length (t .entries)) h in let b = w .2 in omega arith)
 
   hit-in : Holding s t total → Hit (λ e. e < length (t .entries)) (hit)
-  hit-in (inl b) =
-      subst (λ t. Hit (λ e. e < length (t .entries)) (searched (λ e. distTo s (entryAt (alongPath (push s x) (leafFor t (λ c. distTo s c x)) t) e) x)
-      (nodeAt (alongPath (push s x) (leafFor t (λ c. distTo s c x)) t) (leafFor t (λ c. distTo s c x)) .list))) (sym (b .0 .5))
-      (none-there (b .0 .0) (b .0 .1) (b .0 .2) (b .0 .3))
-    where
-      none-there : (z : Summary) (h : Float) (r m : ℕ)
-          → Hit (λ e. e < 0) (searched (λ e. distTo s (entryAt (alongPath (push s x) (leafFor (emptyTree z h r m) (λ c. distTo s c x)) (emptyTree z h r m)) e)
-          x) (nodeAt (alongPath (push s x) (leafFor (emptyTree z h r m) (λ c. distTo s c x)) (emptyTree z h r m))
-          (leafFor (emptyTree z h r m) (λ c. distTo s c x)) .list))
-      none-there z h r m = unfold searched searching leafFor descended alongPath climbed changeAt summed withNodes nodeAt in tt
-  hit-in (inr w) = go (hit) (search-among (λ e. distTo s (entryAt U e) x) (nodeAt U L .list))
-    where
-      same : nodeAt U L .list ≡ nodeAt t L .list
-      same = unfold alongPath withNodes nodeAt summed in climb-keeps (push s x) (λ m. m .list) (λ m. refl) (length (t .nodes)) (some L) (t .nodes) L
-
-      go : (r : Nearest) → Hit (λ e. 0 < occurs e (nodeAt U L .list)) r → Hit (λ e. e < length (t .entries)) r
-      go Nothing a = tt
-      go (Entry e) a =
-          let q = leaf-found s t (λ c. distTo s c x) (w .0) nil nil nil (w .1 .links) in
-          held-in s (nodeAt t) (length (t .nodes)) (t .root) (length (t .entries)) (w .0) nil nil nil (w .1 .links) L e (q .0) (q .1)
-          (subst (λ l. 0 < occurs e l) same a) .0
+  hit-in k = subst (Hit (λ e. e < length (t .entries))) (winner-found s x t) (winner-in s x t total k)
 
   pub grown-owned : (a : List ℕ) → Holding s t total → Owned t a → Owned (grown s x t) (snoc a (taker s x t))
   grown-owned a k w c =
@@ -155,7 +132,7 @@ inserted-owned s x t total a c one k h w =
     go : (b : Bool) → (T b → s .«max_leaves» < length ((grown s x t) .entries))
         → Owned (cond b (rebuilt s (grown s x t)) (grown s x t)) (cond b (map (λ c. rebuiltTo s (grown s x t) c) (snoc a (taker s x t))) (snoc a (taker s x t)))
     go false f = now
-    go true f = rebuild-moves (big .1) (big .2) one (f tt) (snoc a (taker s x t)) now
+    go true f = rebuild-moves (big .1) (big .2) one (f tt) (snoc a (taker s x t)) now .0
 
 pub fresh-owned : (h : Float) → Owned (fresh h) []
 unfolding fresh

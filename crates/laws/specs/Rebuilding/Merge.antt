@@ -77,11 +77,11 @@ and-right false q e = absurd (false≢true e)
 
 module _ {s : Settings} {n total : ℕ} (p : Pair) {m : Merging} (small : total ≤ most) (g : Merged s n total m) (d : p .one ≢ p .two)
     (l : bothAlive p (m .alive) ≡ true) where
-  up-a : getD (m .alive) (p .one) false ≡ true
+  pub up-a : getD (m .alive) (p .one) false ≡ true
   unfolding bothAlive
   up-a = and-left (getD (m .alive) (p .one) false) (getD (m .alive) (p .two) false) l
 
-  up-b : getD (m .alive) (p .two) false ≡ true
+  pub up-b : getD (m .alive) (p .two) false ≡ true
   unfolding bothAlive
   up-b = and-right (getD (m .alive) (p .one) false) (getD (m .alive) (p .two) false) l
 
@@ -111,11 +111,11 @@ module _ {s : Settings} {n total : ℕ} (p : Pair) {m : Merging} (small : total 
   flag-a : getD (m′ .alive) (p .one) false ≡ true
   flag-a = flag-o (p .one) d ∙ up-a
 
-  entry-a : getD (m′ .entries) (p .one) blank ≡ merge s (getD (m .entries) (p .one) blank) (getD (m .entries) (p .two) blank)
+  pub entry-a : getD (m′ .entries) (p .one) blank ≡ merge s (getD (m .entries) (p .one) blank) (getD (m .entries) (p .two) blank)
   unfolding mergeOne
   entry-a = change-at (λ e. merge s e (getD (m .entries) (p .two) blank)) (p .one) blank (m .entries) (subst (λ z. p .one < z) (sym (g .len-e)) in-a)
 
-  entry-o : (c : ℕ) → c ≢ p .one → getD (m′ .entries) c blank ≡ getD (m .entries) c blank
+  pub entry-o : (c : ℕ) → c ≢ p .one → getD (m′ .entries) c blank ≡ getD (m .entries) c blank
   unfolding mergeOne
   entry-o c q = change-off (λ e. merge s e (getD (m .entries) (p .two) blank)) (p .one) c blank (m .entries) q
 

@@ -1,6 +1,6 @@
 -- A refit keeps the invariant, with its own rows as the total, and its account is where its rows went.
 use Prim.Native.Nat.{ℕ, zero, suc, _≤_, _<_}
-use mathlib.Core.Path.{_≡_, refl, ap, _∙_}
+use mathlib.Core.Path.{_≡_, refl, sym, ap, _∙_, subst}
 use mathlib.Core.Bool.{Bool, true, false, not, _&&_, false≢true, cond}
 use mathlib.Core.List.{List, _∷_, map}
 use native.Mathlib.Omega.{arith}
@@ -22,15 +22,19 @@ use Rattle.laws.specs.Invariant.Links.{Links, nil}
 use Rattle.laws.specs.Invariant.Sound.{entryWeight, Caps}
 use Rattle.laws.specs.Inserting.Grown.{Whole}
 use Rattle.laws.specs.Rebuilding.Restored.{Stale, stale-of, refold-restores}
-use Rattle.laws.specs.Ownership.Owner.{reinsertedTo, refitOwners, ownersRefit}
+use Rattle.laws.specs.Demand.{reinsertedTo, refitOwners, ownersRefit, owns, Made}
+use Rattle.laws.specs.Ownership.Made.{AllMade}
 use Rattle.laws.specs.Ownership.Owned.{Owned}
-use Rattle.laws.specs.Refitting.Round.{u, bs, again-whole, w, few-u, again-owned, len-w, pos-u, all-stale, poured-owned, drop-stale, owned-u}
+use Rattle.laws.specs.Refitting.Round.{u, bs, again-whole, w, few-u, moved-again, len-w, pos-u, all-stale, poured-owned, drop-stale, moved-u}
+use Rattle.laws.specs.Refitting.PouredMade.{pour-made}
 use Rattle.laws.specs.Counters.{reinserted-counters, refolded-entries, refolded-counters}
 
 -- ---- the rounds
 
-abbrev pub Ended : Settings → ℕ → ℕ → Tree → Tree → List ℕ → Type 0
-Ended s total top t v a = ((R : ℕ → ℕ) × Stale s v R total) × Owned v a × (length (v .entries) ≤ top) × (v .merged ≡ t .merged)
+-- the rounds of a refit with rows xs left tree v and account a: right links and entries, each entry made of its rows, no more entries
+abbrev pub Ended : Settings → List (List Float) → ℕ → Tree → Tree → List ℕ → Type 0
+Ended s xs top t v a =
+    ((R : ℕ → ℕ) × Stale s v R (length xs)) × Owned v a × (length (v .entries) ≤ top) × (v .merged ≡ t .merged) × AllMade s xs (entryAt v) a
 
 and-not : (b c : Bool) → (not b && c) ≡ true → b ≡ false
 and-not true c e = absurd (false≢true e)
@@ -39,10 +43,10 @@ and-not false c e = refl
 -- the rounds end in a tree of right links and entries, and in its account
 pub rounds-whole : (s : Settings) (xs : List (List Float)) (top : ℕ) → Caps s → 0 < length xs → length xs ≤ most → (k r : ℕ) (t : Tree) (R : ℕ → ℕ) (a : List ℕ)
     → Links s (nodeAt t) (length (t .nodes)) (t .root) (length (t .entries)) R nil nil nil → length (t .entries) ≤ top
-    → (k ≡ 0 → Stale s t R (length xs) × Owned t a)
-    → Ended s (length xs) top t (refitRounds s xs k r t) (refitOwners s xs k r t a)
+    → (k ≡ 0 → Stale s t R (length xs) × Owned t a × AllMade s xs (entryAt t) a)
+    → Ended s xs top t (refitRounds s xs k r t) (refitOwners s xs k r t a)
 unfolding refitRounds refitOwners
-rounds-whole s xs top c pos small zero r t R a g few z = ((R, z refl .0), z refl .1, few, refl)
+rounds-whole s xs top c pos small zero r t R a g few z = ((R, z refl .0), z refl .1, few, refl, z refl .2)
 rounds-whole s xs top c pos small (suc k) r t R a g few z =
     go (every (λ b. b) (bs xs small t g)) refl (not (anyHollow ((u xs small t g) .nodes)) && leb 1 r) refl
     (λ v b S gs fs zs. rounds-whole s xs top c pos small k (suc r) v S b gs fs zs)
@@ -55,25 +59,29 @@ rounds-whole s xs top c pos small (suc k) r t R a g few z =
 
     again : every (λ b. b) (bs xs small t g) ≡ false
         → ((v : Tree) (b : List ℕ) (S : ℕ → ℕ) → Links s (nodeAt v) (length (v .nodes)) (v .root) (length (v .entries)) S nil nil nil
-        → length (v .entries) ≤ top → (k ≡ 0 → Stale s v S (length xs) × Owned v b)
-        → Ended s (length xs) top v (refitRounds s xs k (suc r) v) (refitOwners s xs k (suc r) v b))
-        → Ended s (length xs) top t (refitRounds s xs k (suc r) after) (refitOwners s xs k (suc r) after owners)
+        → length (v .entries) ≤ top → (k ≡ 0 → Stale s v S (length xs) × Owned v b × AllMade s xs (entryAt v) b)
+        → Ended s xs top v (refitRounds s xs k (suc r) v) (refitOwners s xs k (suc r) v b))
+        → Ended s xs top t (refitRounds s xs k (suc r) after) (refitOwners s xs k (suc r) after owners)
     again e ih =
         let q = again-whole xs small t g c pos in
         let x = q .0 in
         let n = q .1 in
         let f = few-u xs small t g e in
-        let i = ih after owners (x .0) (x .1 .links) (omega arith) (λ _. (stale-of s after (x .0) (length xs) (x .1) (x .2), again-owned xs small t g)) in
-        (i .0, i .1, i .2, i .3 ∙ same)
+        let i = ih after owners (x .0) (x .1 .links) (omega arith)
+        (λ _. (stale-of s after (x .0) (length xs) (x .1) (x .2), moved-again xs small t g .0, made)) in
+        (i .0, i .1, i .2, i .3 ∙ same, i .4)
       where
+        made : AllMade s xs (entryAt after) owners
+        made = moved-again xs small t g .1 xs (moved-u xs small t g .1 xs (pour-made xs small t g))
+
         same : after .merged ≡ t .merged
         same = ap (λ c. c .2) (reinserted-counters s (u xs small t g)) ∙ (unfold dropped withEntries withNodes in refl)
 
     go : (p : Bool) → every (λ b. b) (bs xs small t g) ≡ p → (q : Bool) → (not (anyHollow ((u xs small t g) .nodes)) && leb 1 r) ≡ q
         → ((v : Tree) (b : List ℕ) (S : ℕ → ℕ) → Links s (nodeAt v) (length (v .nodes)) (v .root) (length (v .entries)) S nil nil nil
-        → length (v .entries) ≤ top → (k ≡ 0 → Stale s v S (length xs) × Owned v b)
-        → Ended s (length xs) top v (refitRounds s xs k (suc r) v) (refitOwners s xs k (suc r) v b))
-        → Ended s (length xs) top t
+        → length (v .entries) ≤ top → (k ≡ 0 → Stale s v S (length xs) × Owned v b × AllMade s xs (entryAt v) b)
+        → Ended s xs top v (refitRounds s xs k (suc r) v) (refitOwners s xs k (suc r) v b))
+        → Ended s xs top t
         (elim p as (λ _. Tree) [ true ↦ w xs small t g | false ↦ elim q as (λ _. Tree) [ true ↦ u xs small t g | false ↦ refitRounds s xs k (suc r) after ] ])
         (elim p as (λ _. List ℕ) [
           | true ↦ map (route s t) xs
@@ -83,15 +91,16 @@ rounds-whole s xs top c pos small (suc k) r t R a g few z =
             | false ↦ refitOwners s xs k (suc r) after owners
           ]
         ])
-    go true e q f ih = ((R, all-stale xs small t g e), poured-owned xs small t g, lw, (unfold withEntries in refl))
+    go true e q f ih = ((R, all-stale xs small t g e), poured-owned xs small t g, lw, (unfold withEntries in refl), pour-made xs small t g)
       where
         lw : length ((w xs small t g) .entries) ≤ top
         lw = let a = len-w xs small t g in omega arith
     go false e true f ih = (
       (R, drop-stale xs small t g (and-not (anyHollow ((u xs small t g) .nodes)) (leb 1 r) f)),
-      owned-u xs small t g,
+      moved-u xs small t g .0,
       (let a = few-u xs small t g e in omega arith),
       (unfold dropped withEntries withNodes in refl),
+      moved-u xs small t g .1 xs (pour-made xs small t g),
     )
     go false e false f ih = again e ih
 
@@ -102,6 +111,7 @@ pub refit-whole : (s : Settings) (x : List Float) (xs : List (List Float)) (t : 
     → 0 < length (t .entries) → suc (length xs) ≤ most
     → Whole s (refitted s (x ∷ xs) t) (suc (length xs)) × Owned (refitted s (x ∷ xs) t) (ownersRefit s (x ∷ xs) t a)
     × (length ((refitted s (x ∷ xs) t) .entries) ≤ length (t .entries)) × ((refitted s (x ∷ xs) t) .merged ≡ t .merged)
+    × AllMade s (x ∷ xs) (entryAt (refitted s (x ∷ xs) t)) (ownersRefit s (x ∷ xs) t a)
 unfolding refitted ownersRefit
 refit-whole s x xs t old a c w pos small = go (eqb (length (t .entries)) 0) refl
   where
@@ -114,7 +124,7 @@ refit-whole s x xs t old a c w pos small = go (eqb (length (t .entries)) 0) refl
     b : List ℕ
     b = refitOwners s (x ∷ xs) (length (t .entries)) 0 t a
 
-    end : Ended s (suc (length xs)) (length (t .entries)) t v b
+    end : Ended s (x ∷ xs) (length (t .entries)) t v b
     end =
         rounds-whole s (x ∷ xs) (length (t .entries)) c (omega arith) small (length (t .entries)) 0 t (w .0) a (w .1 .links) (omega arith)
         (λ z. absurd (omega arith))
@@ -125,12 +135,16 @@ refit-whole s x xs t old a c w pos small = go (eqb (length (t .entries)) 0) refl
     same-m : (refolded s v) .merged ≡ v .merged
     same-m = ap (λ c. c .2) (refolded-counters s v)
 
+    same-at : (c : ℕ) → entryAt (refolded s v) c ≡ entryAt v c
+    same-at c = unfold entryAt in ap (λ l. getD l c blank) same-e
+
     ew : (c : ℕ) → entryWeight (refolded s v) c ≡ entryWeight v c
-    ew c = unfold entryWeight entryAt in ap (λ l. rowsIn (getD l c blank)) same-e
+    ew c = unfold entryWeight in ap (λ e. rowsIn e) (same-at c)
 
     go : (p : Bool) → eqb (length (t .entries)) 0 ≡ p
         → Whole s (cond p t (refolded s v)) (suc (length xs)) × Owned (cond p t (refolded s v)) (cond p a b)
         × (length ((cond p t (refolded s v)) .entries) ≤ length (t .entries)) × ((cond p t (refolded s v)) .merged ≡ t .merged)
+        × AllMade s (x ∷ xs) (entryAt (cond p t (refolded s v))) (cond p a b)
     go true e = let z = eq-test (length (t .entries)) 0 true e .0 refl in absurd (omega arith)
     go false e = (
       refold-restores (end .0 .1),
@@ -138,6 +152,7 @@ refit-whole s x xs t old a c w pos small = go (eqb (length (t .entries)) 0) refl
       (let q : length ((refolded s v) .entries) ≡ length (v .entries) = ap (λ l. length l) same-e in
           let r = end .2 in omega arith),
       same-m ∙ end .3,
+      (λ c o. subst (λ e. Made s (x ∷ xs) e (owns b c)) (sym (same-at c)) (end .4 c o)),
     )
 
 -- ---- the fuel never decides: whatever is given, from the count of entries up, the rounds end alike

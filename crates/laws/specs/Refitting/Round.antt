@@ -35,7 +35,8 @@ use Rattle.laws.specs.Counting.Flags.{alive, alive-up, alive-down, flag?
 use Rattle.laws.specs.Rebuilding.Drop.{dropped-nodes, dropped-entries, leaf-is, drop-frame, drop-rows, drop-counted, size-leaf, drop-links}
 use Rattle.laws.specs.Rebuilding.Reinsert.{reinserted-whole}
 use Rattle.laws.specs.Rebuilding.Restored.{Stale}
-use Rattle.laws.specs.Ownership.Owner.{reinsertedTo}
+use Rattle.laws.specs.Demand.{reinsertedTo}
+use Rattle.laws.specs.Ownership.Made.{AllMade}
 use Rattle.laws.specs.Ownership.Owned.{Owned, weight-past, drop-carries}
 use Rattle.laws.specs.Ownership.Merged.{reinsert-carries}
 use Rattle.laws.specs.Ownership.Account.{owned-sum}
@@ -247,8 +248,9 @@ module _ {s : Settings} (xs : List (List Float)) (small : length xs ≤ most) (t
   pub few-u : every (λ b. b) bs ≡ false → length (u .entries) < length (t .entries)
   few-u e = let a = len-u in let b = count-lt bs e in let c = len-bs in let d = len-w in omega arith
 
-  pub owned-u : Owned u (map (renumber bs) (map (route s t) xs))
-  owned-u = drop-carries s w bs len-bs (map (route s t) xs) (λ c. alive-same c ∙ poured-owned c)
+  -- the account and the makings, when the unused are dropped
+  pub moved-u : Owned u (map (renumber bs) b) × ((ys : List (List Float)) → AllMade s ys (entryAt w) b → AllMade s ys (entryAt u) (map (renumber bs) b))
+  moved-u = drop-carries s w bs len-bs (map (route s t) xs) (λ c. alive-same c ∙ poured-owned c)
 
   pub frame-u : Frame (nodeAt u) (length (u .nodes)) (u .root) (length (u .entries)) R
   frame-u = drop-frame w bs (length xs) links-w len-bs live sums
@@ -288,9 +290,10 @@ module _ {s : Settings} (xs : List (List Float)) (small : length xs ≤ most) (t
           absurd (omega arith)
       go (suc k) e = omega arith
 
-  -- reinserted
   pub again-whole : Caps s → 0 < length xs → Whole s (reinserted s u) (length xs) × (length ((reinserted s u) .entries) ≡ length (u .entries))
   again-whole c h = reinserted-whole u (length xs) c frame-u rows-u counted-u small (pos-u h)
 
-  pub again-owned : Owned (reinserted s u) (map (λ c. reinsertedTo s u c) (map (renumber bs) b))
-  again-owned = reinsert-carries s u frame-u (map (renumber bs) b) owned-u
+  -- and when what is left is reinserted
+  pub moved-again : Owned (reinserted s u) (map (λ c. reinsertedTo s u c) (map (renumber bs) b)) × ((ys : List (List Float))
+      → AllMade s ys (entryAt u) (map (renumber bs) b) → AllMade s ys (entryAt (reinserted s u)) (map (λ c. reinsertedTo s u c) (map (renumber bs) b)))
+  moved-again = reinsert-carries s u frame-u (map (renumber bs) b) (moved-u .0)

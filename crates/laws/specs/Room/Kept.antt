@@ -1,6 +1,6 @@
 -- A row into a tree that holds: the invariant holds after it, with at most max_leaves entries and room for the nodes.
 use Prim.Native.Nat.{ℕ, suc, _+_, _*_, _/_, _≤_, _<_}
-use mathlib.Core.Path.{_≡_, ap, _∙_}
+use mathlib.Core.Path.{_≡_, refl, ap}
 use mathlib.Core.Logic.{inr, inl}
 use mathlib.Core.Bool.{Bool, true, false, not, cond}
 use mathlib.Core.List.{List}
@@ -13,15 +13,19 @@ use Rattle.binary64.specs.Whole.{most}
 use Rattle.feature.specs.Summaries.{blank}
 use Rattle.head.specs.declared.Settings.{Settings}
 use Rattle.head.specs.Sizes.{nodeCap}
-use Rattle.rules.specs.Tree.{push, Tree}
-use Rattle.rules.specs.Insert.{grown}
+use Rattle.rules.specs.declared.Nearest.{Nearest}
+use Rattle.rules.specs.declared.Nearest.the-variants.{Entry, Nothing}
+use Rattle.rules.specs.Tree.{push, distTo, Tree, withNodes, withEntries}
+use Rattle.rules.specs.Descent.{leafFor, alongPath}
+use Rattle.rules.specs.Split.{splitUp, settled}
+use Rattle.rules.specs.Insert.{begun, absorbed, absorbedOrBegun, placed, grownAt, grown, absorbs}
 use Rattle.rules.specs.Rebuild.{rebuilt, inserted}
 use Rattle.laws.specs.Counting.Lists.{length-change, snoc-length}
 use Rattle.laws.specs.Invariant.Sound.{Caps}
 use Rattle.laws.specs.Room.Nodes.{room-links}
 use Rattle.laws.specs.Inserting.Grown.{Whole}
 use Rattle.laws.specs.Inserting.First.{Holding, grown-holds}
-use Rattle.laws.specs.Locality.Entry.{OneEntry, took, began, grown-one}
+use Rattle.laws.specs.Counters.{splitUp-entries}
 use Rattle.laws.specs.Rebuilding.Rebuilt.{rebuilt-whole}
 
 -- ---- N = (M+1)(M+2)/2 nodes suffice for M+1 entries
@@ -45,15 +49,32 @@ holding-room s t total (inr w) h = room-enough s t total w h
 
 -- ---- one row
 
-pub one-more : (s : Settings) (x : List Float) (t : Tree) → length ((grown s x t) .entries) ≤ suc (length (t .entries))
-one-more s x t = go (grown-one s x t)
+placed-more : (s : Settings) (x : List Float) (l : ℕ) (r : Nearest) (u : Tree) → length ((absorbedOrBegun s x l r u) .entries) ≤ suc (length (u .entries))
+unfolding absorbedOrBegun absorbed begun withEntries withNodes
+placed-more s x l Nothing u = let a = snoc-length (u .entries) (push s x blank) in omega arith
+placed-more s x l (Entry e) u = go (absorbs s x e u)
   where
-    go : OneEntry s x t (grown s x t) → length ((grown s x t) .entries) ≤ suc (length (t .entries))
-    go (took e w m q) =
-        let a : length ((grown s x t) .entries) ≡ length (t .entries) = ap (λ l. length l) q ∙ length-change (push s x) e (t .entries) in
-        omega arith
-    go (began w q) =
-        let a : length ((grown s x t) .entries) ≡ suc (length (t .entries)) = ap (λ l. length l) q ∙ snoc-length (t .entries) (push s x blank) in
+    go : (b : Bool) → length ((cond b (absorbed s x e u) (begun l (push s x blank) u)) .entries) ≤ suc (length (u .entries))
+    go true = let a = length-change (push s x) e (u .entries) in omega arith
+    go false = let a = snoc-length (u .entries) (push s x blank) in omega arith
+
+-- a row adds one entry at most
+pub one-more : (s : Settings) (x : List Float) (t : Tree) → length ((grown s x t) .entries) ≤ suc (length (t .entries))
+unfolding grown grownAt settled placed
+one-more s x t = go _
+  where
+    l : ℕ
+    l = leafFor t (λ c. distTo s c x)
+
+    u : Tree
+    u = alongPath (push s x) l t
+
+    go : (r : Nearest) → let v = absorbedOrBegun s x l r u in length ((splitUp s (length (v .nodes)) l v) .entries) ≤ suc (length (t .entries))
+    go r =
+        let v = absorbedOrBegun s x l r u in
+        let a : length ((splitUp s (length (v .nodes)) l v) .entries) ≡ length (v .entries) = ap length (splitUp-entries s (length (v .nodes)) l v) in
+        let b : length (v .entries) ≤ suc (length (u .entries)) = placed-more s x l r u in
+        let c : length (u .entries) ≡ length (t .entries) = unfold alongPath withNodes in refl in
         omega arith
 
 -- total rows held, at most max_leaves entries

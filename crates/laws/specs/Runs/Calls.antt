@@ -1,39 +1,48 @@
--- Each accepted call on a tree at rest leaves a tree at rest, and moves the account with it.
+-- Each accepted call on a tree at rest leaves a tree at rest, and moves the account with it; each entry stays made of its rows.
 use Prim.Native.Nat.{ℕ, suc, _+_, _≤_, _<_}
 use mathlib.Core.Path.{_≡_, refl, ap, subst, sym, _∙_}
 use mathlib.Core.Logic.{inl, inr, _≢_}
 use mathlib.Core.Bool.{Bool, true, false, cond, not, true≢false}
-use mathlib.Core.List.{List, [], _∷_}
+use mathlib.Core.List.{List, [], _∷_, _++_, map, append-nil, append-assoc}
 use native.Mathlib.Omega.{arith}
-use lib.Dec.{eqb}
-use lib.ListN.{length}
+use lib.Dec.{eqb, ltb}
+use lib.ListN.{length, length-map}
 use lib.Ieee.{Float}
 use Rattle.binary64.specs.Whole.{most}
 use Rattle.head.specs.declared.Settings.{Settings}
 use Rattle.head.specs.Limits.{Sized}
-use Rattle.rules.specs.Tree.{Tree, fresh}
+use Rattle.rules.specs.Lists.{snoc}
+use Rattle.rules.specs.Tree.{Tree, entryAt, fresh}
+use Rattle.rules.specs.Insert.{grown}
 use Rattle.rules.specs.Rebuild.{inserted, insertedAll}
 use Rattle.rules.specs.Refit.{refitted}
 use Rattle.laws.specs.Invariant.Sound.{caps-of}
 use Rattle.laws.specs.Inserting.First.{Holding, fresh-holds}
 use Rattle.laws.specs.Room.Kept.{inserted-kept}
 use Rattle.laws.specs.Check.Both.{AtRest}
-use Rattle.laws.specs.Ownership.Owner.{ownersIn, ownersAll, ownersRefit}
+use Rattle.laws.specs.Counting.Lists.{snoc-length}
+use Rattle.laws.specs.Demand.{taker, rebuiltTo, ownersIn, ownersAll, ownersRefit, effective}
+use Rattle.laws.specs.Ownership.Made.{AllMade}
 use Rattle.laws.specs.Ownership.Owned.{Owned}
 use Rattle.laws.specs.Ownership.Rows.{inserted-owned}
+use Rattle.laws.specs.Ownership.RowsMade.{inserted-made}
 use Rattle.laws.specs.Refitting.Refitted.{refit-whole}
 use Rattle.laws.specs.Runs.Merged.{inserted-merged}
-
--- a refit with rows and entries is effective
-unfoldable pub effective : List (List Float) → Tree → Bool
-effective [] t = false
-effective (x ∷ xs) t = not (eqb (length (t .entries)) 0)
 
 -- ---- a tree at rest and its account
 
 pub record Owning (s : Settings) (t : Tree) (rows : ℕ) (a : List ℕ) : Type 0 where
   pub rests : AtRest s t rows
   pub owned : Owned t a
+
+-- one place more for a row
+owners-length : (s : Settings) (x : List Float) (t : Tree) (a : List ℕ) → length (ownersIn s x t a) ≡ suc (length a)
+unfolding ownersIn
+owners-length s x t a = go (ltb (s .«max_leaves») (length ((grown s x t) .entries)))
+  where
+    go : (b : Bool) → length (cond b (map (rebuiltTo s (grown s x t)) (snoc a (taker s x t))) (snoc a (taker s x t))) ≡ suc (length a)
+    go true = length-map (snoc a (taker s x t)) (rebuiltTo s (grown s x t)) ∙ snoc-length a (taker s x t)
+    go false = snoc-length a (taker s x t)
 
 module _ {s : Settings} (z : Sized s) where
   -- a row into a tree at rest leaves one, with one row more
@@ -59,17 +68,32 @@ module _ {s : Settings} (z : Sized s) where
       subst (λ n. Owning s (insertedAll s xs (inserted s x t)) n (ownersAll s xs (inserted s x t) (ownersIn s x t a))) e
       (batch-owning xs (inserted s x t) (suc rows) (ownersIn s x t a) (row-owning x t rows a o (omega arith)) (omega arith))
 
-  -- an effective refit asks nothing of the account before it
-  pub effective-owning : (xs : List (List Float)) (t : Tree) (rows : ℕ) (a : List ℕ) → AtRest s t rows → effective xs t ≡ true → length xs ≤ most
-      → Owning s (refitted s xs t) (length xs) (ownersRefit s xs t a)
+  -- entries that are made of the rows ys so far are made of these and the batch's rows
+  pub batch-made : (xs : List (List Float)) (t : Tree) (ys : List (List Float)) (a : List ℕ) → Owning s t (length ys) a → length a ≡ length ys
+      → length ys + length xs ≤ most → AllMade s ys (entryAt t) a → AllMade s (ys ++ xs) (entryAt (insertedAll s xs t)) (ownersAll s xs t a)
+  unfolding insertedAll ownersAll snoc
+  batch-made [] t ys a o len h m = subst (λ l. AllMade s l (entryAt t) a) (sym (append-nil ys)) m
+  batch-made (x ∷ xs) t ys a o len h m =
+      let r = o .rests in
+      let n : length (snoc ys x) ≡ suc (length ys) = snoc-length ys x in
+      let k = owners-length s x t a in
+      subst (λ l. AllMade s l (entryAt (insertedAll s xs (inserted s x t))) (ownersAll s xs (inserted s x t) (ownersIn s x t a))) (append-assoc ys (x ∷ []) xs)
+      (batch-made xs (inserted s x t) (snoc ys x) (ownersIn s x t a)
+      (subst (λ n. Owning s (inserted s x t) n (ownersIn s x t a)) (sym n) (row-owning x t (length ys) a o (omega arith))) (omega arith) (omega arith)
+      (inserted-made s x t (length ys) ys a (caps-of z) (z .most-some) (r .holds, r .few) (omega arith) len (o .owned) m))
+
+  -- an effective refit: the account, and what the entries are made of
+  effective-both : (xs : List (List Float)) (t : Tree) (rows : ℕ) (a : List ℕ) → AtRest s t rows → effective xs t ≡ true → length xs ≤ most
+      → Owning s (refitted s xs t) (length xs) (ownersRefit s xs t a) × AllMade s xs (entryAt (refitted s xs t)) (ownersRefit s xs t a)
   unfolding effective
-  effective-owning [] t rows a r e h = let z : _≡_ {A = ℕ} 0 1 = cc in absurd (omega arith)
-  effective-owning (x ∷ xs) t rows a r e h = go (r .holds)
+  effective-both [] t rows a r e h = let z : _≡_ {A = ℕ} 0 1 = cc in absurd (omega arith)
+  effective-both (x ∷ xs) t rows a r e h = go (r .holds)
     where
       some-entry : length (t .entries) ≢ 0
       some-entry q = true≢false (sym e ∙ ap (λ n. not (eqb n 0)) q)
 
       go : Holding s t rows → Owning s (refitted s (x ∷ xs) t) (suc (length xs)) (ownersRefit s (x ∷ xs) t a)
+          × AllMade s (x ∷ xs) (entryAt (refitted s (x ∷ xs) t)) (ownersRefit s (x ∷ xs) t a)
       go (inl b) = absurd (some-entry (ap (λ u. length (u .entries)) (b .0 .5)))
       go (inr w) =
           let q = refit-whole s x xs t rows a (caps-of z) w (let n = some-entry in omega arith) h in
@@ -77,7 +101,17 @@ module _ {s : Settings} (z : Sized s) where
           let merged = q .3 in
           let old = r .few in
           let m = r .unsettled in
-          record { rests = record { holds = inr (q .0); few = omega arith; unsettled = omega arith }; owned = q .1 }
+          (record { rests = record { holds = inr (q .0); few = omega arith; unsettled = omega arith }; owned = q .1 }, q .4)
+
+  -- an effective refit asks nothing of the account before it
+  pub effective-owning : (xs : List (List Float)) (t : Tree) (rows : ℕ) (a : List ℕ) → AtRest s t rows → effective xs t ≡ true → length xs ≤ most
+      → Owning s (refitted s xs t) (length xs) (ownersRefit s xs t a)
+  effective-owning xs t rows a r e h = effective-both xs t rows a r e h .0
+
+  -- nor of what the entries were made of: they are made of its own rows
+  pub effective-made : (xs : List (List Float)) (t : Tree) (rows : ℕ) (a : List ℕ) → AtRest s t rows → effective xs t ≡ true → length xs ≤ most
+      → AllMade s xs (entryAt (refitted s xs t)) (ownersRefit s xs t a)
+  effective-made xs t rows a r e h = effective-both xs t rows a r e h .1
 
 -- any other refit alters nothing
 pub idle-refit : (s : Settings) (xs : List (List Float)) (t : Tree) (a : List ℕ) → effective xs t ≡ false → (refitted s xs t ≡ t) × (ownersRefit s xs t a ≡ a)

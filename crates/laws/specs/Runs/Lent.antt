@@ -25,10 +25,10 @@ use Rattle.laws.specs.Invariant.Sound.{entryWeight}
 use Rattle.laws.specs.Inserting.First.{emptyTree, Zero, Holding}
 use Rattle.laws.specs.Check.Taken.{Binary64}
 use Rattle.laws.specs.Check.Both.{passing-rests, resting-passes}
-use Rattle.laws.specs.Ownership.Owner.{rowsAmong, Account}
+use Rattle.laws.specs.Demand.{rowsAmong, Account, effective}
 use Rattle.laws.specs.Ownership.Owned.{Owned}
 use Rattle.laws.specs.Ownership.Account.{owned-account}
-use Rattle.laws.specs.Runs.Calls.{effective, Owning, row-owning, batch-owning, effective-owning, idle-refit}
+use Rattle.laws.specs.Runs.Calls.{Owning, row-owning, batch-owning, effective-owning, idle-refit}
 use Rattle.laws.specs.Runs.Runs.{owned-length, effective-some}
 
 -- ---- an account of any tree: each entry's number as often as it weighs, from number i on
@@ -75,7 +75,7 @@ stands i (e ∷ es) (suc k) =
     clash : suc k + i ≡ i → ⊥
     clash z = omega arith
 
-standing-owned : (t : Tree) → Owned t (standing 0 (t .entries))
+pub standing-owned : (t : Tree) → Owned t (standing 0 (t .entries))
 unfolding entryWeight entryAt
 standing-owned t c = sym (stands 0 (t .entries) c) ∙ ap (λ z. occurs z (standing 0 (t .entries))) (let q : c + 0 ≡ c = omega arith in q)
 

@@ -1,95 +1,87 @@
 -- One public call on buffers that hold a tree at rest: accepted, they hold the rule's tree, at rest again; refused, they are as before.
 use Prim.Native.Nat.{ℕ, _+_, _/_, _≤_, _<_}
 use mathlib.Core.Path.{_≡_, refl, sym, subst, _∙_}
+use mathlib.Core.Bool.{true}
 use mathlib.Core.List.{List, [], _∷_, _++_}
 use native.Mathlib.Omega.{arith}
-use lib.ListN.{length, drop}
+use lib.ListN.{length, drop, length-append, length-drop}
 use lib.Ieee.{Float}
 use Rattle.binary64.specs.Whole.{most}
 use Rattle.head.specs.declared.refusal.Refusal.the-variants as Refusals
 use Rattle.head.specs.declared.Settings.{Settings}
 use Rattle.head.specs.declared.Head.{Head}
 use Rattle.head.specs.declared.refusal.Refusal.{Refusal}
-use Rattle.head.specs.declared.refusal.Answer.{Answer}
 use Rattle.head.specs.declared.refusal.Answer.the-variants.{Accepted, Refused}
 use Rattle.head.specs.Heads.{newCounters, settingsOf, withCounters}
 use Rattle.head.specs.Sizes.{linksNeeded, floatsNeeded}
-use Rattle.head.specs.Limits.{allowed-sized, Sized, allowed}
+use Rattle.head.specs.Limits.{allowed-sized, Sized, sizesWithin, choicesWithin, allowed}
 use Rattle.rules.specs.Calls.{Made, createRefusals, Lent, Left, lentTree, fronted, changed, settle}
 use Rattle.rules.specs.Calls.{created, rowInserted, batchInserted, batchRefitted, insertFullRefusal, refitFullRefusal, rowRefusals, batchRefusals}
 use Rattle.rules.specs.Calls.{batchShapeRefusal, madeBy, settingsRefusal, changeRefusals, roomRefusal, rowShapeRefusal}
 use Rattle.rules.specs.Tree.{fresh, Tree}
 use Rattle.rules.specs.Slices.{countersOf, floatsOf, linksOf}
 use Rattle.rules.specs.ListLaws.{rows-count}
-use Rattle.rules.specs.RefusalLaws.{none-both, unless-none, insert-full-none, refit-full-none}
+use Rattle.rules.specs.CallLaws.{accepted-done}
+use Rattle.rules.specs.Cleared.{changed-tree}
+use Rattle.rules.specs.RefusalLaws.{none-both, unless-none, room-none, insert-full-none, refit-full-none}
 use Rattle.rules.specs.Lists.{rowsOf}
-use Rattle.rules.specs.Stored.{Fits, stored}
+use Rattle.rules.specs.Stored.{stored}
 use Rattle.rules.specs.Check.{totalOf}
 use Rattle.rules.specs.Insert.{grown}
 use Rattle.rules.specs.Rebuild.{insertedAll, inserted}
 use Rattle.rules.specs.Refit.{refitted}
 use Rattle.laws.specs.Runs.Runs as Runs
 use Rattle.laws.specs.Shapes.{fresh-shaped, ShapedTree, batch-shaped, refit-shaped}
-use Rattle.laws.specs.Ownership.Owner.{ownersIn, ownersAll, ownersRefit}
-use Rattle.laws.specs.Locality.Row.{Local, no-rebuild, row-local}
-use Rattle.laws.specs.Runs.Runs.{rowsRefit, Run, rest-total, run-owning, insert, refit}
+use Rattle.laws.specs.Demand.{rowsIn, after, ownersIn, ownersAll, ownersRefit, Local, rowsRefit}
+use Rattle.laws.specs.Locality.Row.{no-rebuild, row-local}
+use Rattle.laws.specs.Runs.Runs.{Run, rest-total, run-owning, insert, refit}
+use Rattle.laws.specs.Runs.Threshold.{Fine, inserted-fine, all-fine, refitted-fine, fine-lent, limits-kept}
 use Rattle.laws.specs.Runs.Fitting.{resting-fits}
-
--- ---- rows and account after a call
-
--- the rows of a batch
-unfoldable pub rowsIn : Head → List Float → List (List Float)
-rowsIn h xs = rowsOf (length xs / settingsOf h .dim) (settingsOf h .dim) xs
-
-module _ {A : Type 0} where
-  -- new if the call is accepted; a refused one leaves the old
-  unfoldable pub after : Answer → A → A → A
-  after Accepted new old = new
-  after (Refused r) new old = old
-
--- ---- what an accepted answer says
-
--- it passed every test, and is done
-accepted-done : (rs : List Refusal) (h : Head) (l : Lent) (done : Left) → settle rs h l done .answer ≡ Accepted → (rs ≡ []) × (settle rs h l done ≡ done)
-unfolding settle
-accepted-done [] h l done e = (refl, refl)
-accepted-done (r ∷ rs) h l done e = let z : _≡_ {A = ℕ} 0 1 = cc in absurd (omega arith)
-
--- the tree that a changing call leaves is the one that its rule gives
-changed-tree : (h : Head) (l : Lent) (t : Tree) → Sized (settingsOf h) → Fits (settingsOf h) t
-    → lentTree (changed h l t .head) (changed h l t .lent .floats) (changed h l t .lent .links) ≡ t
-unfolding changed lentTree fronted settingsOf withCounters
-changed-tree h l t z f =
-    stored (settingsOf h) z t f (drop (length (floatsOf (settingsOf h) t)) (l .floats)) (drop (length (linksOf (settingsOf h) t)) (l .links))
 
 changed-settings : (h : Head) (l : Lent) (t : Tree) → settingsOf (changed h l t .head) ≡ settingsOf h
 unfolding changed settingsOf withCounters
 changed-settings h l t = refl
 
--- ---- what holds throughout: the lent tree is that of a run over the rules
+-- ---- what holds throughout: the head is within its limits, the buffers have room, and the lent tree is that of a run over the rules
 
 pub record Public (h : Head) (fs : List Float) (ls : List ℕ) (ys : List (List Float)) (a : List ℕ) : Type 0 where
+  pub allows : allowed h ≡ true
+  pub floats-room : floatsNeeded (settingsOf h) ≤ length fs
+  pub links-room : linksNeeded (settingsOf h) ≤ length ls
   pub threshold : Float
-  pub sizes : Sized (settingsOf h)
   pub run : Run (settingsOf h) threshold (lentTree h fs ls) ys a
   pub shaped : ShapedTree (settingsOf h) (lentTree h fs ls)
 
+pub sizes-of : {h : Head} {fs : List Float} {ls : List ℕ} {ys : List (List Float)} {a : List ℕ} → Public h fs ls ys a → Sized (settingsOf h)
+sizes-of {h} p = allowed-sized h (p .allows)
+
+room-kept : {A : Type 0} (new old : List A) (n : ℕ) → n ≤ length old → n ≤ length (fronted new old)
+unfolding fronted
+room-kept new old n h = let a = length-append new (drop (length new) old) in let b = length-drop (length new) old in omega arith
+
 -- one call from there: the rule's tree u, left in the buffers
-next : (h : Head) (l : Lent) (u : Tree) (ys : List (List Float)) (a : List ℕ) (threshold : Float) → Sized (settingsOf h)
-    → Run (settingsOf h) threshold u ys a → ShapedTree (settingsOf h) u
-    → Public (changed h l u .head) (changed h l u .lent .floats) (changed h l u .lent .links) ys a
-next h l u ys a threshold z r k =
-    let o = run-owning z r in
-    let e = changed-tree h l u z (resting-fits z u (length ys) (o .rests) k) in
-    let q = changed-settings h l u in
-    record {
-      threshold = threshold;
-      sizes = subst Sized (sym q) z;
-      run = subst (λ s. Run s threshold (lentTree (changed h l u .head) (changed h l u .lent .floats) (changed h l u .lent .links)) ys a)
-          (sym q) (subst (λ t. Run (settingsOf h) threshold t ys a) (sym e) r);
-      shaped = subst (λ s. ShapedTree s (lentTree (changed h l u .head) (changed h l u .lent .floats) (changed h l u .lent .links))) (sym q)
-          (subst (ShapedTree (settingsOf h)) (sym e) k);
-    }
+module _ (h : Head) (l : Lent) {ys : List (List Float)} {a : List ℕ} (p : Public h (l .floats) (l .links) ys a) where
+  pub next : (u : Tree) (zs : List (List Float)) (b : List ℕ) → (Fine (lentTree h (l .floats) (l .links) .threshold) → Fine (u .threshold))
+      → Run (settingsOf h) (p .threshold) u zs b → ShapedTree (settingsOf h) u
+      → Public (changed h l u .head) (changed h l u .lent .floats) (changed h l u .lent .links) zs b
+  next u zs b fine r k = record {
+    allows = (unfold changed in limits-kept h u (p .allows) (fine (fine-lent h (l .floats) (l .links) (p .allows))));
+    floats-room = subst (λ s. floatsNeeded s ≤ length (changed h l u .lent .floats)) (sym q)
+        (unfold changed in room-kept (floatsOf (settingsOf h) u) (l .floats) _ (p .floats-room));
+    links-room = subst (λ s. linksNeeded s ≤ length (changed h l u .lent .links)) (sym q)
+        (unfold changed in room-kept (linksOf (settingsOf h) u) (l .links) _ (p .links-room));
+    threshold = p .threshold;
+    run = subst (λ s. Run s (p .threshold) (lentTree (changed h l u .head) (changed h l u .lent .floats) (changed h l u .lent .links)) zs b) (sym q)
+        (subst (λ t. Run (settingsOf h) (p .threshold) t zs b) (sym e) r);
+    shaped = subst (λ s. ShapedTree s (lentTree (changed h l u .head) (changed h l u .lent .floats) (changed h l u .lent .links))) (sym q)
+        (subst (ShapedTree (settingsOf h)) (sym e) k);
+  }
+    where
+      q : settingsOf (changed h l u .head) ≡ settingsOf h
+      q = changed-settings h l u
+
+      e : lentTree (changed h l u .head) (changed h l u .lent .floats) (changed h l u .lent .links) ≡ u
+      e = changed-tree h l u (sizes-of p) (resting-fits (sizes-of p) u (length zs) (run-owning (sizes-of p) r .rests) k)
 
 abbrev PublicAfter : Left → List (List Float) → List ℕ → Type 0
 PublicAfter o ys a = Public (o .head) (o .lent .floats) (o .lent .links) ys a
@@ -157,7 +149,7 @@ module _ (h : Head) (l : Lent) where
         let (is, small) = row-accepted x e in
         let (run, k) = row-run x small in
         subst (λ o. PublicAfter o (ys ++ (x ∷ [])) (ownersIn s x t a)) (sym is)
-        (next h l (inserted s x t) (ys ++ (x ∷ [])) (ownersIn s x t a) (p .threshold) (p .sizes) run k)
+        (next h l p (inserted s x t) (ys ++ (x ∷ [])) (ownersIn s x t a) (inserted-fine s x t) run k)
 
     after-batch : (xs : List Float) → batchInserted h l xs .answer ≡ Accepted
         → PublicAfter (batchInserted h l xs) (ys ++ rowsIn h xs) (ownersAll s (rowsIn h xs) t a)
@@ -166,7 +158,7 @@ module _ (h : Head) (l : Lent) where
         let (is, small) = batch-accepted xs e in
         let run : Run s (p .threshold) (insertedAll s rows t) (ys ++ rows) (ownersAll s rows t a) = insert {t = t} rows small (p .run) in
         subst (λ o. PublicAfter o (ys ++ rows) (ownersAll s rows t a)) (sym is)
-        (next h l (insertedAll s rows t) (ys ++ rows) (ownersAll s rows t a) (p .threshold) (p .sizes) run (batch-shaped s rows t (p .shaped)))
+        (next h l p (insertedAll s rows t) (ys ++ rows) (ownersAll s rows t a) (all-fine s rows t) run (batch-shaped s rows t (p .shaped)))
 
     after-refit : (xs : List Float) → batchRefitted h l xs .answer ≡ Accepted
         → PublicAfter (batchRefitted h l xs) (rowsRefit (rowsIn h xs) t ys) (ownersRefit s (rowsIn h xs) t a)
@@ -175,8 +167,7 @@ module _ (h : Head) (l : Lent) where
         let (is, small) = refit-accepted xs e in
         let run : Run s (p .threshold) (refitted s rows t) (rowsRefit rows t ys) (ownersRefit s rows t a) = refit {t = t} rows small (p .run) in
         subst (λ o. PublicAfter o (rowsRefit rows t ys) (ownersRefit s rows t a)) (sym is)
-        (next h l (refitted s rows t) (rowsRefit rows t ys) (ownersRefit s rows t a) (p .threshold) (p .sizes) run
-        (refit-shaped s rows t (p .shaped)))
+        (next h l p (refitted s rows t) (rowsRefit rows t ys) (ownersRefit s rows t a) (refitted-fine s rows t) run (refit-shaped s rows t (p .shaped)))
 
     -- ---- with any answer
 
@@ -206,12 +197,13 @@ module _ (h : Head) (l : Lent) where
     row-left x e few =
         let (is, small) = row-accepted x e in
         let (run, k) = row-run x small in
-        let o = run-owning (p .sizes) (p .run) in
-        let q = run-owning (p .sizes) run .rests in
+        let z = sizes-of p in
+        let o = run-owning z (p .run) in
+        let q = run-owning z run .rests in
         let n = rest-total (o .rests) in
-        let left = changed-tree h l (inserted s x t) (p .sizes) (resting-fits (p .sizes) (inserted s x t) (length (ys ++ (x ∷ []))) q k) in
+        let left = changed-tree h l (inserted s x t) z (resting-fits z (inserted s x t) (length (ys ++ (x ∷ []))) q k) in
         subst (λ o. Local s x t (lentTree (o .head) (o .lent .floats) (o .lent .links))) (sym is)
-        (subst (λ u. Local s x t u) (sym (left ∙ no-rebuild s x t few)) (row-local s x t (p .sizes) (o .rests) (omega arith)))
+        (subst (λ u. Local s x t u) (sym (left ∙ no-rebuild s x t few)) (row-local s x t z (o .rests) (omega arith)))
 
 -- creation
 abbrev PublicMade : Made → Type 0
@@ -223,24 +215,35 @@ unfolding madeBy
 made-none [] h fs ls e = (refl, refl)
 made-none (r ∷ rs) h fs ls e = let z : _≡_ {A = ℕ} 0 1 = cc in absurd (omega arith)
 
-fresh-made : (h : Head) (fs : List Float) (ls : List ℕ) → Sized (settingsOf h) → PublicMade (madeBy [] h fs ls)
-unfolding madeBy fronted withCounters settingsOf lentTree countersOf newCounters fresh
-fresh-made h fs ls z =
-    let s = settingsOf h in
-    let thr = h .counters .threshold in
-    let run : Run s thr (fresh thr) [] [] = Runs.created in
-    let f = resting-fits z (fresh thr) 0 (run-owning z run .rests) (fresh-shaped s thr) in
-    let back = stored s z (fresh thr) f (drop (length (floatsOf s (fresh thr))) fs) (drop (length (linksOf s (fresh thr))) ls) in
-    record { threshold = thr; sizes = z; run = subst (λ t. Run s thr t [] []) (sym back) run; shaped = subst (ShapedTree s) (sym back) (fresh-shaped s thr) }
+module _ (h : Head) (fs : List Float) (ls : List ℕ) where
+  abbrev new : Settings
+  new = settingsOf h
 
-pub after-create : (h : Head) (fs : List Float) (ls : List ℕ) → created h fs ls .answer ≡ Accepted → PublicMade (created h fs ls)
-unfolding created createRefusals settingsRefusal
-after-create h fs ls e =
-    let s = settingsOf h in
-    let more = roomRefusal (floatsNeeded s) (length fs) ++ roomRefusal (linksNeeded s) (length ls) in
-    let (rs, is) = made-none (settingsRefusal h ++ more) h fs ls e in
-    let ok = unless-none (allowed h) Refusals.Settings (none-both (settingsRefusal h) more rs .0) in
-    subst PublicMade (sym is) (fresh-made h fs ls (allowed-sized h ok))
+  fresh-made : allowed h ≡ true → floatsNeeded new ≤ length fs → linksNeeded new ≤ length ls → PublicMade (madeBy [] h fs ls)
+  unfolding madeBy fronted withCounters settingsOf lentTree countersOf newCounters fresh allowed sizesWithin choicesWithin
+  fresh-made ok p q =
+      let z = allowed-sized h ok in
+      let thr = h .counters .threshold in
+      let run : Run new thr (fresh thr) [] [] = Runs.created in
+      let f = resting-fits z (fresh thr) 0 (run-owning z run .rests) (fresh-shaped new thr) in
+      let back = stored new z (fresh thr) f (drop (length (floatsOf new (fresh thr))) fs) (drop (length (linksOf new (fresh thr))) ls) in
+      record {
+        allows = ok;
+        floats-room = room-kept (floatsOf new (fresh thr)) fs _ p;
+        links-room = room-kept (linksOf new (fresh thr)) ls _ q;
+        threshold = thr;
+        run = subst (λ t. Run new thr t [] []) (sym back) run;
+        shaped = subst (ShapedTree new) (sym back) (fresh-shaped new thr);
+      }
+
+  pub after-create : created h fs ls .answer ≡ Accepted → PublicMade (created h fs ls)
+  unfolding created createRefusals settingsRefusal
+  after-create e =
+      let more = roomRefusal (floatsNeeded new) (length fs) ++ roomRefusal (linksNeeded new) (length ls) in
+      let (rs, is) = made-none (settingsRefusal h ++ more) h fs ls e in
+      let (a, b) = none-both (settingsRefusal h) more rs in
+      let (c, d) = none-both (roomRefusal (floatsNeeded new) (length fs)) (roomRefusal (linksNeeded new) (length ls)) b in
+      subst PublicMade (sym is) (fresh-made (unless-none (allowed h) Refusals.Settings a) (room-none _ _ c) (room-none _ _ d))
 
 made-refused : (rs : List Refusal) (r : Refusal) (h : Head) (fs : List Float) (ls : List ℕ) {ys : List (List Float)} {a : List ℕ}
     → madeBy rs h fs ls .answer ≡ Refused r → Public h fs ls ys a

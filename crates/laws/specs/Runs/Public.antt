@@ -1,53 +1,30 @@
--- Demand 3 over the public calls: an accepted creation, and any calls after it, accepted or refused, each on the head and the buffers that the last one left.
-use Prim.Native.Nat.{ℕ, _≤_}
-use mathlib.Core.Path.{_≡_}
-use mathlib.Core.List.{List, [], _∷_, _++_}
+-- Demand 3 over the public calls: whatever calls follow an accepted creation, accepted or refused, each on the head and the buffers that the last one left.
+use Prim.Native.Nat.{ℕ, _+_, _/_, _%_, _≤_}
+use mathlib.Core.Path.{_≡_, refl}
+use mathlib.Core.Bool.{Bool, true, false, _||_}
+use mathlib.Core.List.{List, []}
 use native.Mathlib.Omega.{arith}
+use borrow.Author.Tests.{eq-eqb, le-leb}
+use lib.Dec.{leb, eqb}
 use lib.ListN.{length}
 use lib.Ieee.{Float}
+use Rattle.binary64.specs.Whole.{most}
 use Rattle.head.specs.declared.Head.{Head}
-use Rattle.head.specs.declared.refusal.Refusal.{Refusal}
-use Rattle.head.specs.declared.refusal.Answer.the-variants.{Accepted, Refused}
+use Rattle.head.specs.declared.refusal.Answer.the-variants.{Accepted}
+use Rattle.head.specs.declared.refusal.Refusal.the-variants.{Full}
 use Rattle.head.specs.Heads.{settingsOf}
-use Rattle.rules.specs.Calls.{Lent, Left, lentTree}
-use Rattle.rules.specs.Calls.{created, rowInserted, batchInserted, batchRefitted}
+use Rattle.head.specs.Sizes.{floatsNeeded, linksNeeded, scratchFloatsNeeded, scratchLinksNeeded}
+use Rattle.rules.specs.Calls.{unless, settingsRefusal, roomRefusal, treeRefusal, rowShapeRefusal, batchShapeRefusal, insertFullRefusal, refitFullRefusal}
+use Rattle.rules.specs.Calls.{Lent, lentTree, treeRefusals, changeRefusals, changed, settle, rowRefusals, batchRefusals, rowInserted, batchInserted, batchRefitted}
 use Rattle.rules.specs.Tree.{Tree}
 use Rattle.rules.specs.Insert.{grown}
-use Rattle.laws.specs.Check.Both.{AtRest}
-use Rattle.laws.specs.Ownership.Owner.{ownersIn, ownersAll, ownersRefit}
-use Rattle.laws.specs.Locality.Row.{Local}
+use Rattle.rules.specs.Check.{totalOf}
+use Rattle.laws.specs.Demand.{rowsIn, Calls, create, row, batch, refitAll, createAgain, read, Promise, Local}
+use Rattle.laws.specs.Check.Both.{AtRest, resting-passes}
 use Rattle.laws.specs.Room.Nodes.{Roomy}
 use Rattle.laws.specs.Room.Calls.{Inserting, InsertingAll, Refitting, inserting-roomy, inserting-all-roomy, refitting-roomy}
-use Rattle.laws.specs.Runs.Runs.{rowsRefit, rest-total, run-owning, Promise, run-keeps}
-use Rattle.laws.specs.Runs.OneCall.{rowsIn, after, Public, row-accepted, batch-accepted, refit-accepted, any-row, any-batch, any-refit, row-left, after-create, after-refused}
-
--- the calls that change neither head nor tree
-pub data Reading : Type 0 where
-  routing : (rows : List Float) (out : List ℕ) → Reading
-  spread : (out : List Float) → Reading
-  validation : Reading
-  listing : Reading
-
--- From an accepted creation through any public calls: the head and the two buffers of the tree, the rows since the last effective refit with that refit's own,
--- and whose each of these rows is. Each call is given any rows and any scratch, and may be refused.
-pub data Calls : Head → List Float → List ℕ → List (List Float) → List ℕ → Type 0 where
-  create : (h : Head) (fs : List Float) (ls : List ℕ) → created h fs ls .answer ≡ Accepted
-      → Calls (created h fs ls .head) (created h fs ls .floats) (created h fs ls .links) [] []
-  row : {h : Head} (l : Lent) {ys : List (List Float)} {a : List ℕ} (x : List Float) (o : Left) → o ≡ rowInserted h l x → Calls h (l .floats) (l .links) ys a
-      → Calls (o .head) (o .lent .floats) (o .lent .links) (after (o .answer) (ys ++ (x ∷ [])) ys)
-      (after (o .answer) (ownersIn (settingsOf h) x (lentTree h (l .floats) (l .links)) a) a)
-  batch : {h : Head} (l : Lent) {ys : List (List Float)} {a : List ℕ} (xs : List Float) (o : Left) → o ≡ batchInserted h l xs
-      → Calls h (l .floats) (l .links) ys a
-      → Calls (o .head) (o .lent .floats) (o .lent .links) (after (o .answer) (ys ++ rowsIn h xs) ys)
-      (after (o .answer) (ownersAll (settingsOf h) (rowsIn h xs) (lentTree h (l .floats) (l .links)) a) a)
-  refitAll : {h : Head} (l : Lent) {ys : List (List Float)} {a : List ℕ} (xs : List Float) (o : Left) → o ≡ batchRefitted h l xs
-      → Calls h (l .floats) (l .links) ys a
-      → Calls (o .head) (o .lent .floats) (o .lent .links) (after (o .answer) (rowsRefit (rowsIn h xs) (lentTree h (l .floats) (l .links)) ys) ys)
-      (after (o .answer) (ownersRefit (settingsOf h) (rowsIn h xs) (lentTree h (l .floats) (l .links)) a) a)
-  createAgain : {h : Head} {fs : List Float} {ls : List ℕ} {ys : List (List Float)} {a : List ℕ} (r : Refusal) → created h fs ls .answer ≡ Refused r
-      → Calls h fs ls ys a
-      → Calls (created h fs ls .head) (created h fs ls .floats) (created h fs ls .links) ys a
-  read : {h : Head} {fs : List Float} {ls : List ℕ} {ys : List (List Float)} {a : List ℕ} → Reading → Calls h fs ls ys a → Calls h fs ls ys a
+use Rattle.laws.specs.Runs.Runs.{rest-total, run-owning, run-keeps}
+use Rattle.laws.specs.Runs.OneCall.{Public, sizes-of, row-accepted, batch-accepted, refit-accepted, any-row, any-batch, any-refit, row-left, after-create, after-refused}
 
 -- ---- any calls
 
@@ -63,12 +40,12 @@ calls-public (read q c) = calls-public c
 -- demand 3, of the tree in the buffers after any calls
 pub calls-keep : {h : Head} {fs : List Float} {ls : List ℕ} {ys : List (List Float)} {a : List ℕ} → Calls h fs ls ys a
     → Promise (settingsOf h) (lentTree h fs ls) ys a
-calls-keep c = let p = calls-public c in run-keeps (p .sizes) (p .run)
+calls-keep c = let p = calls-public c in run-keeps (sizes-of p) (p .run)
 
 -- that tree is at rest
 pub calls-rest : {h : Head} {fs : List Float} {ls : List ℕ} {ys : List (List Float)} {a : List ℕ} → Calls h fs ls ys a
     → AtRest (settingsOf h) (lentTree h fs ls) (length ys)
-calls-rest c = let p = calls-public c in run-owning (p .sizes) (p .run) .rests
+calls-rest c = let p = calls-public c in run-owning (sizes-of p) (p .run) .rests
 
 -- one more row, accepted and without a rebuild: between the trees in the buffers
 module _ {h : Head} (l : Lent) {ys : List (List Float)} {a : List ℕ} (c : Calls h (l .floats) (l .links) ys a) where
@@ -83,16 +60,68 @@ module _ {h : Head} (l : Lent) {ys : List (List Float)} {a : List ℕ} (c : Call
   row-roomy x e w =
       let small = row-accepted h l x e .1 in
       let n = rest-total (calls-rest c) in
-      inserting-roomy (calls-public c .sizes) x (lentTree h (l .floats) (l .links)) (calls-rest c) (omega arith) w
+      inserting-roomy (sizes-of (calls-public c)) x (lentTree h (l .floats) (l .links)) (calls-rest c) (omega arith) w
 
   pub batch-roomy : (xs : List Float) → batchInserted h l xs .answer ≡ Accepted → {u : Tree}
       → InsertingAll (settingsOf h) (rowsIn h xs) (lentTree h (l .floats) (l .links)) u → Roomy (settingsOf h) u
   batch-roomy xs e w =
       let small = batch-accepted h l xs e .1 in
       let n = rest-total (calls-rest c) in
-      inserting-all-roomy (calls-public c .sizes) (rowsIn h xs) (lentTree h (l .floats) (l .links)) (calls-rest c) (omega arith) w
+      inserting-all-roomy (sizes-of (calls-public c)) (rowsIn h xs) (lentTree h (l .floats) (l .links)) (calls-rest c) (omega arith) w
 
   pub refit-roomy : (xs : List Float) → batchRefitted h l xs .answer ≡ Accepted → {u : Tree}
       → Refitting (settingsOf h) (rowsIn h xs) (lentTree h (l .floats) (l .links)) u → Roomy (settingsOf h) u
   refit-roomy xs e w =
-      refitting-roomy (calls-public c .sizes) (rowsIn h xs) (lentTree h (l .floats) (l .links)) (calls-rest c) (refit-accepted h l xs e .1) w
+      refitting-roomy (sizes-of (calls-public c)) (rowsIn h xs) (lentTree h (l .floats) (l .links)) (calls-rest c) (refit-accepted h l xs e .1) w
+
+-- ---- a run can always go on: what any calls left is refused by none of 1, 2 and 3
+
+pub calls-go-on : {h : Head} {fs : List Float} {ls : List ℕ} {ys : List (List Float)} {a : List ℕ} → Calls h fs ls ys a → treeRefusals h fs ls ≡ []
+unfolding treeRefusals settingsRefusal roomRefusal treeRefusal unless
+calls-go-on {h} {fs} {ls} {ys} c =
+    let p = calls-public c in
+    let s = settingsOf h in
+    let f = le-leb (floatsNeeded s) (length fs) (p .floats-room) in
+    let l = le-leb (linksNeeded s) (length ls) (p .links-room) in
+    rw (p .allows, f, l, resting-passes s (lentTree h fs ls) (length ys) (calls-rest c))
+
+-- so rows of the right shape are taken as long as scratch has room and they stay within 2^53
+module _ {h : Head} (l : Lent) {ys : List (List Float)} {a : List ℕ} (c : Calls h (l .floats) (l .links) ys a)
+    (floats : scratchFloatsNeeded (settingsOf h) ≤ length (l .scratchFloats)) (links : scratchLinksNeeded (settingsOf h) ≤ length (l .scratchLinks)) where
+  abbrev t : Tree
+  t = lentTree h (l .floats) (l .links)
+
+  none-changed : changeRefusals h l ≡ []
+  unfolding changeRefusals settingsRefusal roomRefusal treeRefusal unless
+  none-changed =
+      let p = calls-public c in
+      let s = settingsOf h in
+      let f = le-leb (floatsNeeded s) (length (l .floats)) (p .floats-room) in
+      let k = le-leb (linksNeeded s) (length (l .links)) (p .links-room) in
+      let sf = le-leb (scratchFloatsNeeded s) (length (l .scratchFloats)) floats in
+      let sk = le-leb (scratchLinksNeeded s) (length (l .scratchLinks)) links in
+      rw (p .allows, f, k, sf, sk, resting-passes s t (length ys) (calls-rest c))
+
+  pub row-goes-on : (x : List Float) → length x ≡ settingsOf h .dim → length ys + 1 ≤ most → rowInserted h l x .answer ≡ Accepted
+  unfolding rowInserted rowRefusals rowShapeRefusal insertFullRefusal unless settle changed
+  row-goes-on x e room =
+      let n = rest-total (calls-rest c) in
+      rw (none-changed, eq-eqb (length x) (settingsOf h .dim) e, le-leb (totalOf (t .entries) + 1) most (omega arith))
+
+  pub batch-goes-on : (xs : List Float) → length xs % settingsOf h .dim ≡ 0 → length ys + length xs / settingsOf h .dim ≤ most
+      → batchInserted h l xs .answer ≡ Accepted
+  unfolding batchInserted batchRefusals batchShapeRefusal insertFullRefusal unless settle changed
+  batch-goes-on xs e room =
+      let n = rest-total (calls-rest c) in
+      rw (none-changed, eq-eqb (length xs % settingsOf h .dim) 0 e, le-leb (totalOf (t .entries) + length xs / settingsOf h .dim) most (omega arith))
+
+  none-full : (b d : Bool) → d ≡ true → unless (b || d) Full ≡ []
+  unfolding unless
+  none-full true d e = refl
+  none-full false d e = rw e
+
+  pub refit-goes-on : (xs : List Float) → length xs % settingsOf h .dim ≡ 0 → length xs / settingsOf h .dim ≤ most → batchRefitted h l xs .answer ≡ Accepted
+  unfolding batchRefitted batchShapeRefusal refitFullRefusal unless settle changed
+  refit-goes-on xs e room =
+      let n = length xs / settingsOf h .dim in
+      rw (none-changed, eq-eqb (length xs % settingsOf h .dim) 0 e, none-full (eqb (length (t .entries)) 0) (leb n most) (le-leb n most room))

@@ -12,27 +12,25 @@ use Rattle.binary64.specs.Whole.{most}
 use Rattle.feature.specs.Summaries.{blank}
 use Rattle.head.specs.declared.Settings.{Settings}
 use Rattle.head.specs.Limits.{Sized}
-use Rattle.rules.specs.declared.Verdict.the-variants.{Passes}
 use Rattle.rules.specs.Lists.{occurs}
+use Rattle.rules.specs.CallLaws.{passes-total}
 use Rattle.rules.specs.Tree.{Tree, fresh, entryAt}
 use Rattle.rules.specs.Rebuild.{insertedAll}
 use Rattle.rules.specs.Refit.{refitted}
-use Rattle.rules.specs.Check.{checked, totalOf, leafLists}
+use Rattle.rules.specs.Check.{totalOf, leafLists}
 use Rattle.laws.specs.Counting.Count.{below, below-in, below-out}
 use Rattle.laws.specs.Invariant.Sound.{entryWeight}
 use Rattle.laws.specs.Inserting.First.{Holding}
 use Rattle.laws.specs.Check.Passing.{entries-sum}
 use Rattle.laws.specs.Check.Accept.{once-back}
 use Rattle.laws.specs.Check.Both.{AtRest, none-total, resting-passes, passing-linked}
-use Rattle.laws.specs.Ownership.Owner.{ownersAll, ownersRefit, Account}
+use Rattle.laws.specs.Demand.{ownersAll, ownersRefit, Account, effective, rowsRefit, Promise}
+use Rattle.laws.specs.Ownership.Made.{AllMade}
 use Rattle.laws.specs.Ownership.Rows.{fresh-owned}
+use Rattle.laws.specs.Ownership.RowsMade.{owner-of}
 use Rattle.laws.specs.Ownership.Account.{owned-sum, owned-account, fresh-account}
 use Rattle.laws.specs.Runs.Threshold.{Fine, all-fine, refitted-fine}
-use Rattle.laws.specs.Runs.Calls.{effective, Owning, batch-owning, effective-owning, idle-refit, fresh-rests}
-
--- the rows that a refit leaves to be accounted for: its own, if it is effective
-unfoldable pub rowsRefit : List (List Float) → Tree → List (List Float) → List (List Float)
-rowsRefit xs t ys = cond (effective xs t) xs ys
+use Rattle.laws.specs.Runs.Calls.{Owning, batch-owning, batch-made, effective-owning, effective-made, idle-refit, fresh-rests}
 
 -- a run from a fresh tree of threshold h: the tree that it leaves, the rows since the last effective refit with that refit's own,
 -- and whose each of these rows is.
@@ -73,6 +71,19 @@ refit-owning {s} z xs t ys a room o = go (effective xs t) refl
         let q = idle-refit s xs t a e in
         subst (λ u. Owning s u (length ys) (ownersRefit s xs t a)) (sym (q .0)) (subst (λ c. Owning s t (length ys) c) (sym (q .1)) o)
 
+-- after a refit each entry is made of the refit's rows; one that is not effective leaves all
+refit-made : {s : Settings} → Sized s → (xs : List (List Float)) (t : Tree) (ys : List (List Float)) (a : List ℕ)
+    → (0 < length (t .entries) → length xs ≤ most) → AtRest s t (length ys) → AllMade s ys (entryAt t) a
+    → AllMade s (rowsRefit xs t ys) (entryAt (refitted s xs t)) (ownersRefit s xs t a)
+unfolding rowsRefit
+refit-made {s} z xs t ys a room r m = go (effective xs t) refl
+  where
+    go : (b : Bool) → effective xs t ≡ b → AllMade s (cond b xs ys) (entryAt (refitted s xs t)) (ownersRefit s xs t a)
+    go true e = effective-made z xs t (length ys) a r e (room (effective-some xs t e))
+    go false e =
+        let q = idle-refit s xs t a e in
+        subst (λ u. AllMade s ys (entryAt u) (ownersRefit s xs t a)) (sym (q .0)) (subst (λ c. AllMade s ys (entryAt t) c) (sym (q .1)) m)
+
 module _ {s : Settings} (z : Sized s) {h : Float} where
   -- at rest, with an account, at the end of any run
   pub run-owning : {t : Tree} {ys : List (List Float)} {a : List ℕ} → Run s h t ys a → Owning s t (length ys) a
@@ -87,6 +98,16 @@ module _ {s : Settings} (z : Sized s) {h : Float} where
 pub owned-length : {s : Settings} {t : Tree} {rows : ℕ} {a : List ℕ} → Owning s t rows a → length a ≡ rows
 unfolding entryWeight entryAt
 owned-length {s} {t} {rows} {a} o = owned-sum t a (o .owned) ∙ sym (entries-sum blank (t .entries)) ∙ rest-total (o .rests)
+
+module _ {s : Settings} (z : Sized s) {h : Float} where
+  -- each entry is made of its rows, at the end of any run
+  pub run-made : {t : Tree} {ys : List (List Float)} {a : List ℕ} → Run s h t ys a → AllMade s ys (entryAt t) a
+  run-made created = λ c o. let e : occurs c [] ≡ 0 = unfold occurs in refl in absurd (omega arith)
+  run-made (insert {t} {ys} {a} xs room r) =
+      let o = run-owning z r in
+      let e = rest-total (o .rests) in
+      batch-made z xs t ys a o (owned-length o) (omega arith) (run-made r)
+  run-made (refit {t} {ys} {a} xs room r) = refit-made z xs t ys a room (run-owning z r .rests) (run-made r)
 
 some-rows : {s : Settings} {t : Tree} {rows : ℕ} {a : List ℕ} → Owning s t rows a → 0 < rows → length (t .entries) ≡ 0 → ⊥
 some-rows {s} {t} o p e = let q = none-total (t .entries) e in let r = rest-total (o .rests) in omega arith
@@ -128,18 +149,6 @@ module _ {s : Settings} (z : Sized s) {h : Float} where
 
 -- ---- the promise
 
-pub record Promise (s : Settings) (t : Tree) (ys : List (List Float)) (a : List ℕ) : Type 0 where
-  -- at most max_leaves entries
-  pub few : length (t .entries) ≤ s .«max_leaves»
-  -- each listed once, and nothing else listed
-  pub once : (c : ℕ) → c < length (t .entries) → occurs c (leafLists (t .nodes)) ≡ 1
-  pub none : (c : ℕ) → length (t .entries) ≤ c → occurs c (leafLists (t .nodes)) ≡ 0
-  -- each row has its place in the account
-  pub each : length a ≡ length ys
-  -- which gives it one entry, each entry the count of its rows as weight, and each node the count of rows beneath it
-  pub account : Account t a
-  pub passes : checked s t ≡ Passes
-
 -- demand 3 at the end of any run
 pub run-keeps : {s : Settings} → Sized s → {h : Float} {t : Tree} {ys : List (List Float)} {a : List ℕ} → Run s h t ys a → Promise s t ys a
 run-keeps {s} z {h} {t} {ys} {a} r =
@@ -152,7 +161,9 @@ run-keeps {s} z {h} {t} {ys} {a} r =
       once = (λ c h. listed c ∙ below-in c (length (t .entries)) h);
       none = (λ c h. listed c ∙ below-out c (length (t .entries)) h);
       each = owned-length o;
+      exact = (let a = owned-length o in let b = rest-total (o .rests) in let c = passes-total s t ok in omega arith);
       account = run-account z r;
+      made = (λ c h. run-made z r c (owner-of s t (length ys) a (o .rests .holds) (o .owned) c h));
       passes = ok;
     }
 

@@ -11,8 +11,12 @@ use lib.IntN.{ℤ, pos}
 use lib.Ieee.{Float, nan, inf, fin, lt, le, eq, up, down, ofBits}
 use lib.Ieee.Fits.{and-l}
 use lib.ListN.{length}
+use denote.Floats.{passes, is-true}
 use Rattle.binary64.specs.Operators.{f0, largest, _⊗_}
+use Rattle.head.specs.declared.Head.{Head}
 use Rattle.head.specs.declared.Settings.{Settings}
+use Rattle.head.specs.Heads.{withCounters}
+use Rattle.head.specs.Limits.{both, allowed, sizesWithin, choicesWithin, thresholdWithin}
 use Rattle.rules.specs.Rebuild.{growth, Merging, dropped, grownThreshold, withMerges, rebalanced, compacted}
 use Rattle.rules.specs.Rebuild.{mergedBy, mergedWith, counted, rebuilt, inserted, insertedAll}
 use Rattle.rules.specs.Tree.{Tree, withNodes, withEntries, withMerged}
@@ -21,6 +25,8 @@ use Rattle.rules.specs.Pairs.{siblings, cousins}
 use Rattle.rules.specs.declared.Pair.{Pair}
 use Rattle.rules.specs.Reinsert.{reinserted}
 use Rattle.rules.specs.Refit.{refitted}
+use Rattle.rules.specs.Slices.{treeOf, countersOf}
+use Rattle.rules.specs.Calls.{lentTree}
 use Rattle.laws.specs.Counters.{refolded-counters, reinserted-counters, refitted-counters, grown-counters}
 
 -- ---- floats
@@ -150,3 +156,22 @@ all-fine s (x ∷ xs) t f = all-fine s xs (inserted s x t) (inserted-fine s x t 
 
 pub refitted-fine : (s : Settings) (xs : List (List Float)) (t : Tree) → Fine (t .threshold) → Fine ((refitted s xs t) .threshold)
 refitted-fine s xs t f = subst Fine (sym (ap (λ c. c .0) (refitted-counters s xs t))) f
+
+-- ---- heads
+
+-- the threshold of an allowed head is so
+pub fine-lent : (h : Head) (fs : List Float) (ls : List ℕ) → allowed h ≡ true → Fine (lentTree h fs ls .threshold)
+unfolding allowed thresholdWithin lentTree treeOf
+fine-lent h fs ls e =
+    let (_, b) = both (sizesWithin h) _ e in
+    let (_, d) = both (choicesWithin h) _ b in
+    let (p, q) = both (finite (h .counters .threshold)) _ d in
+    (passes _ p, passes _ q)
+
+-- and with such a threshold an allowed head stays allowed, whatever its other counters
+pub limits-kept : (h : Head) (t : Tree) → allowed h ≡ true → Fine (t .threshold) → allowed (withCounters h (countersOf t)) ≡ true
+unfolding allowed sizesWithin choicesWithin thresholdWithin withCounters countersOf
+limits-kept h t e f =
+    let (a, b) = both (sizesWithin h) _ e in
+    let (c, _) = both (choicesWithin h) _ b in
+    rw (a, c, is-true (finite (t .threshold)) (f .0), is-true (le f0 (t .threshold)) (f .1))

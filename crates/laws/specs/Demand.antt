@@ -1,0 +1,271 @@
+-- Demand 3, as it is stated: what a reader has to believe of it, and nothing else.
+-- `Runs.Public.calls-keep` proves `Promise` at the end of any `Calls`, and `Runs.Public.calls-local` proves `Local` of any row without a rebuild.
+use Prim.Native.Nat.{ℕ, zero, suc, _+_, _-_, _/_, _≤_, _<_}
+use mathlib.Core.Path.{_≡_}
+use mathlib.Core.Logic.{_⊎_}
+use mathlib.Core.Bool.{Bool, true, false, _||_, _&&_, not, cond}
+use mathlib.Core.List.{List, [], _∷_, _++_, map, reverse}
+use mathlib.Core.Option.{Option, none, some}
+use lib.ListN.{length, getD}
+use lib.Dec.{leb, ltb, eqb}
+use lib.Ieee.{Float}
+use Rattle.binary64.specs.Operators.{f0}
+use Rattle.binary64.specs.Whole.{whole, most}
+use Rattle.feature.specs.declared.Summary.{Summary}
+use Rattle.feature.specs.Summaries.{blank}
+use Rattle.head.specs.declared.Head.{Head}
+use Rattle.head.specs.declared.Settings.{Settings}
+use Rattle.head.specs.declared.refusal.Refusal.{Refusal}
+use Rattle.head.specs.declared.refusal.Answer.{Answer}
+use Rattle.head.specs.declared.refusal.Answer.the-variants.{Accepted, Refused}
+use Rattle.head.specs.Heads.{settingsOf}
+use Rattle.rules.specs.declared.Nearest.{Nearest}
+use Rattle.rules.specs.declared.Nearest.the-variants.{Entry, Nothing}
+use Rattle.rules.specs.declared.Pair.{Pair}
+use Rattle.rules.specs.declared.Verdict.the-variants.{Passes}
+use Rattle.rules.specs.Lists.{changeAt, snoc, occurs, every, rowsOf}
+use Rattle.rules.specs.Tree.{push, merge, distTo, Tree, nodeAt, entryAt, withEntries, withMerged}
+use Rattle.rules.specs.Descent.{searched, leafFor, alongPath}
+use Rattle.rules.specs.Insert.{grown, absorbs}
+use Rattle.rules.specs.Pairs.{sorted, siblings, cousins}
+use Rattle.rules.specs.Rebuild.{Merging, mergeOne, bothAlive, mergeAll, target, renumber, dropped, withMerges, inserted}
+use Rattle.rules.specs.Reinsert.{collected, reinserted}
+use Rattle.rules.specs.Refit.{route, reaccumulated, used, anyHollow}
+use Rattle.rules.specs.Check.{checked, leafLists}
+use Rattle.rules.specs.Calls.{Lent, Left, Written, Listed, lentTree, created, rowInserted, batchInserted, batchRefitted, routed, spreadWritten, validated, listed}
+use Rattle.laws.specs.Counting.Count.{is}
+
+-- ---- whose each row is: an account beside the tree, the owner of each row in order of arrival, moved by the numbers that each step uses
+
+-- the entry that takes a row: the nearest one of its leaf that absorbs it, or a new one
+unfoldable pub takerOf : Settings → List Float → Nearest → Tree → ℕ
+takerOf s x Nothing t = length (t .entries)
+takerOf s x (Entry e) t = cond (absorbs s x e t) e (length (t .entries))
+
+unfoldable pub taker : Settings → List Float → Tree → ℕ
+taker s x t =
+    let l = leafFor t (λ c. distTo s c x) in
+    let u = alongPath (push s x) l t in
+    takerOf s x (searched (λ e. distTo s (entryAt u e) x) (nodeAt u l .list)) u
+
+-- one merge of a rebuild: the entry merged away goes to the one that stays
+unfoldable pub mergedTo : Pair → ℕ → ℕ
+mergedTo p c = cond (eqb c (p .two)) (p .one) c
+
+unfoldable pub mergedInto : Settings → ℕ → List Pair → Merging → ℕ → ℕ
+mergedInto s zero ps m c = c
+mergedInto s (suc k) [] m c = c
+mergedInto s (suc k) (p ∷ ps) m c =
+    elim (bothAlive p (m .alive)) [ true ↦ mergedInto s k ps (mergeOne s p m) (mergedTo p c) | false ↦ mergedInto s (suc k) ps m c ]
+
+-- reinsertion: the place of c in a list
+unfoldable pub placeIn : List ℕ → ℕ → ℕ
+placeIn [] c = 0
+placeIn (d ∷ ds) c = cond (eqb c d) 0 (suc (placeIn ds c))
+
+unfoldable pub reinsertedTo : Settings → Tree → ℕ → ℕ
+reinsertedTo s t c = placeIn (reverse (collected t (length (t .nodes)) (t .root ∷ []))) c
+
+unfoldable pub rebalancedTo : Settings → Bool → Tree → ℕ → ℕ
+rebalancedTo s across t c = cond (across || leb (s .«max_leaves») (t .merged)) (reinsertedTo s (withMerged 0 t) c) c
+
+unfoldable pub compactedTo : Settings → Bool → Tree → Merging → ℕ → ℕ
+compactedTo s across t m c = cond (eqb (m .count) 0) c (rebalancedTo s across (dropped (m .alive) (withMerges t m)) (renumber (m .alive) c))
+
+unfoldable pub mergedByTo : Settings → Bool → List Pair → Tree → ℕ → ℕ
+mergedByTo s across ps t c =
+    let k = length (t .entries) - target (s .«max_leaves») in
+    let m : Merging = record { entries = t .entries; alive = map (λ _. true) (t .entries); count = 0; widest = f0 } in
+    compactedTo s across t (mergeAll s k (sorted ps) m) (mergedInto s k (sorted ps) m c)
+
+unfoldable pub mergedWithTo : Settings → List Pair → Tree → ℕ → ℕ
+mergedWithTo s [] t c = mergedByTo s true (cousins s t (t .nodes)) t c
+mergedWithTo s (p ∷ ps) t c = mergedByTo s false (p ∷ ps) t c
+
+unfoldable pub rebuiltTo : Settings → Tree → ℕ → ℕ
+rebuiltTo s t c = mergedWithTo s (siblings s t (t .nodes)) t c
+
+-- the account after a row, and after rows
+unfoldable pub ownersIn : Settings → List Float → Tree → List ℕ → List ℕ
+ownersIn s x t a =
+    let u = grown s x t in
+    let b = snoc a (taker s x t) in
+    cond (ltb (s .«max_leaves») (length (u .entries))) (map (rebuiltTo s u) b) b
+
+unfoldable pub ownersAll : Settings → List (List Float) → Tree → List ℕ → List ℕ
+ownersAll s [] t a = a
+ownersAll s (x ∷ xs) t a = ownersAll s xs (inserted s x t) (ownersIn s x t a)
+
+-- after a refit: each row begins at its route, and goes where the drops and reinsertions send that entry
+unfoldable pub refitOwners : Settings → List (List Float) → ℕ → ℕ → Tree → List ℕ → List ℕ
+refitOwners s xs zero r t a = a
+refitOwners s xs (suc k) r t a =
+    let es = reaccumulated s t xs in
+    let alive = map used es in
+    let u = dropped alive (withEntries es t) in
+    let b = map (route s t) xs in
+    elim (every (λ b. b) alive) [
+      | true ↦ b
+      | false ↦ elim (not (anyHollow (u .nodes)) && leb 1 r) [
+        | true ↦ map (renumber alive) b
+        | false ↦ refitOwners s xs k (suc r) (reinserted s u)
+            (map (reinsertedTo s u) (map (renumber alive) b))
+      ]
+    ]
+
+unfoldable pub ownersRefit : Settings → List (List Float) → Tree → List ℕ → List ℕ
+ownersRefit s [] t a = a
+ownersRefit s (x ∷ xs) t a = cond (eqb (length (t .entries)) 0) a (refitOwners s (x ∷ xs) (length (t .entries)) 0 t a)
+
+-- ---- the calls
+
+-- a refit with rows and entries is effective: the rows to be accounted for are then its own
+unfoldable pub effective : List (List Float) → Tree → Bool
+effective [] t = false
+effective (x ∷ xs) t = not (eqb (length (t .entries)) 0)
+
+unfoldable pub rowsRefit : List (List Float) → Tree → List (List Float) → List (List Float)
+rowsRefit xs t ys = cond (effective xs t) xs ys
+
+-- the rows of a batch
+unfoldable pub rowsIn : Head → List Float → List (List Float)
+rowsIn h xs = rowsOf (length xs / settingsOf h .dim) (settingsOf h .dim) xs
+
+-- new if the call is accepted; a refused one leaves the old
+unfoldable pub after : {A : Type 0} → Answer → A → A → A
+after Accepted new old = new
+after (Refused r) new old = old
+
+-- the calls that change neither head nor tree, each with its outcome
+pub data Reading (h : Head) (fs : List Float) (ls : List ℕ) : Type 0 where
+  routing : (xs : List Float) (out : List ℕ) (o : Written ℕ) → o ≡ routed h fs ls xs out → Reading h fs ls
+  spread : (out : List Float) (o : Written Float) → o ≡ spreadWritten h fs ls out → Reading h fs ls
+  validation : (o : Answer) → o ≡ validated h fs ls → Reading h fs ls
+  listing : (o : Listed) → o ≡ listed h fs ls → Reading h fs ls
+
+-- From an accepted creation through any public calls: the head and the two buffers of the tree, the rows since the last effective refit with that refit's own,
+-- and whose each of these rows is. Each call is given any rows and any scratch, and may be refused.
+pub data Calls : Head → List Float → List ℕ → List (List Float) → List ℕ → Type 0 where
+  create : (h : Head) (fs : List Float) (ls : List ℕ) → created h fs ls .answer ≡ Accepted
+      → Calls (created h fs ls .head) (created h fs ls .floats) (created h fs ls .links) [] []
+  row : {h : Head} (l : Lent) {ys : List (List Float)} {a : List ℕ} (x : List Float) (o : Left) → o ≡ rowInserted h l x → Calls h (l .floats) (l .links) ys a
+      → Calls (o .head) (o .lent .floats) (o .lent .links) (after (o .answer) (ys ++ (x ∷ [])) ys)
+      (after (o .answer) (ownersIn (settingsOf h) x (lentTree h (l .floats) (l .links)) a) a)
+  batch : {h : Head} (l : Lent) {ys : List (List Float)} {a : List ℕ} (xs : List Float) (o : Left) → o ≡ batchInserted h l xs
+      → Calls h (l .floats) (l .links) ys a
+      → Calls (o .head) (o .lent .floats) (o .lent .links) (after (o .answer) (ys ++ rowsIn h xs) ys)
+      (after (o .answer) (ownersAll (settingsOf h) (rowsIn h xs) (lentTree h (l .floats) (l .links)) a) a)
+  refitAll : {h : Head} (l : Lent) {ys : List (List Float)} {a : List ℕ} (xs : List Float) (o : Left) → o ≡ batchRefitted h l xs
+      → Calls h (l .floats) (l .links) ys a
+      → Calls (o .head) (o .lent .floats) (o .lent .links) (after (o .answer) (rowsRefit (rowsIn h xs) (lentTree h (l .floats) (l .links)) ys) ys)
+      (after (o .answer) (ownersRefit (settingsOf h) (rowsIn h xs) (lentTree h (l .floats) (l .links)) a) a)
+  createAgain : {h : Head} {fs : List Float} {ls : List ℕ} {ys : List (List Float)} {a : List ℕ} (r : Refusal) → created h fs ls .answer ≡ Refused r
+      → Calls h fs ls ys a
+      → Calls (created h fs ls .head) (created h fs ls .floats) (created h fs ls .links) ys a
+  read : {h : Head} {fs : List Float} {ls : List ℕ} {ys : List (List Float)} {a : List ℕ} → Reading h fs ls → Calls h fs ls ys a → Calls h fs ls ys a
+
+-- ---- what an account says
+
+-- how many rows belong to entries of the list l
+unfoldable pub rowsAmong : List ℕ → List ℕ → ℕ
+rowsAmong l [] = 0
+rowsAmong l (c ∷ a) = cond (ltb 0 (occurs c l)) (suc (rowsAmong l a)) (rowsAmong l a)
+
+-- each row belongs to one entry; an entry's weight is the count of its rows, and a node's that of the rows beneath it
+pub record Account (t : Tree) (a : List ℕ) : Type 0 where
+  pub owners : (i : ℕ) → i < length a → getD a i 0 < length (t .entries)
+  pub entries : (c : ℕ) → c < length (t .entries) → entryAt t c .weight ≡ whole (occurs c a)
+  pub nodes : (k : ℕ) → k < length (t .nodes) → nodeAt t k .summary .weight ≡ whole (rowsAmong (collected t (length (t .nodes)) (k ∷ [])) a)
+
+-- ---- what an entry is made of: rows, each named by its place in order of arrival, and merges
+
+-- empty; or the row at a place pushed into another; or a second one merged into a first
+pub data Making : Type 0 where
+  empty : Making
+  taking : ℕ → Making → Making
+  joining : Making → Making → Making
+
+-- the summary that a making gives, where ys are the rows in order of arrival
+unfoldable pub madeOf : Settings → List (List Float) → Making → Summary
+madeOf s ys empty = blank
+madeOf s ys (taking i m) = push s (getD ys i []) (madeOf s ys m)
+madeOf s ys (joining m n) = merge s (madeOf s ys m) (madeOf s ys n)
+
+-- how often a making pushes the row at place i
+unfoldable pub uses : Making → ℕ → ℕ
+uses empty i = 0
+uses (taking j m) i = is i j + uses m i
+uses (joining m n) i = uses m i + uses n i
+
+-- 1 if the account a gives the row at place i to entry c; 0 if it gives it to another, or has no such place
+unfoldable pub owns : List ℕ → ℕ → ℕ → ℕ
+owns a c i = getD (map (is c) a) i 0
+
+-- e is made of rows of ys by pushes and merges alone, and the row at place i is pushed p i times
+pub record Made (s : Settings) (ys : List (List Float)) (e : Summary) (p : ℕ → ℕ) : Type 0 where
+  pub making : Making
+  pub gives : madeOf s ys making ≡ e
+  pub pushes : (i : ℕ) → uses making i ≡ p i
+
+-- ---- the promise
+
+pub record Promise (s : Settings) (t : Tree) (ys : List (List Float)) (a : List ℕ) : Type 0 where
+  -- at most max_leaves entries
+  pub few : length (t .entries) ≤ s .«max_leaves»
+  -- each listed once, and nothing else listed
+  pub once : (c : ℕ) → c < length (t .entries) → occurs c (leafLists (t .nodes)) ≡ 1
+  pub none : (c : ℕ) → length (t .entries) ≤ c → occurs c (leafLists (t .nodes)) ≡ 0
+  -- each row has its place in the account; no count of rows passes 2^53, so that each is a float exactly
+  pub each : length a ≡ length ys
+  pub exact : length a ≤ most
+  -- the account gives each row one entry, each entry the count of its rows as weight, and each node the count of rows beneath it
+  pub account : Account t a
+  -- each entry is made of just the rows that the account gives it: each of them pushed once, no other row, and merges
+  pub made : (c : ℕ) → c < length (t .entries) → Made s ys (entryAt t c) (owns a c)
+  pub passes : checked s t ≡ Passes
+
+-- ---- one row's insert without a rebuild, from t to u
+
+-- the row's path: from the leaf that its descent finds up to the root, k nodes at most
+unfoldable pub wayUp : Tree → ℕ → Option ℕ → List ℕ
+wayUp t zero o = []
+wayUp t (suc k) none = []
+wayUp t (suc k) (some n) = n ∷ wayUp t k (nodeAt t n .parent)
+
+unfoldable pub rowPath : Settings → List Float → Tree → List ℕ
+rowPath s x t = wayUp t (length (t .nodes)) (some (leafFor t (λ c. distTo s c x)))
+
+abbrev pub OnPath : Settings → List Float → Tree → ℕ → Type 0
+OnPath s x t q = 0 < occurs q (rowPath s x t)
+
+-- the entry of the row's leaf that `dist` finds nearest, or that no distance was below infinity
+unfoldable pub winner : Settings → List Float → Tree → Nearest
+winner s x t = searched (λ e. distTo s (entryAt t e) x) (nodeAt t (leafFor t (λ c. distTo s c x)) .list)
+
+-- the winner took the row in, and `abs` to it is within the threshold; or there is one entry more, and no winner is within it
+pub data OneEntry (s : Settings) (x : List Float) (t u : Tree) : Type 0 where
+  took : (e : ℕ) → e < length (t .entries) → winner s x t ≡ Entry e → absorbs s x e t ≡ true
+      → u .entries ≡ changeAt (push s x) e (t .entries) → OneEntry s x t u
+  began : ((e : ℕ) → winner s x t ≡ Entry e → absorbs s x e t ≡ false) → u .entries ≡ snoc (t .entries) (push s x blank) → OneEntry s x t u
+
+-- node q's parent was one of P, and is a new node now: n there were
+pub record Moved (P : ℕ → Type 0) (n : ℕ) (t u : Tree) (q : ℕ) : Type 0 where
+  pub from : ℕ
+  pub was : nodeAt t q .parent ≡ some from
+  pub on : P from
+  pub to : ℕ
+  pub new : n ≤ to
+  pub is : nodeAt u q .parent ≡ some to
+
+-- summary, list and kind are as before, and so is the parent unless a split moved the node
+pub record Same (P : ℕ → Type 0) (n : ℕ) (t u : Tree) (q : ℕ) : Type 0 where
+  pub summary : nodeAt u q .summary ≡ nodeAt t q .summary
+  pub list : nodeAt u q .list ≡ nodeAt t q .list
+  pub leaf : nodeAt u q .leaf ≡ nodeAt t q .leaf
+  pub parent : (nodeAt u q .parent ≡ nodeAt t q .parent) ⊎ Moved P n t u q
+
+-- One row's insert without a rebuild alters one entry, which absorbs only within the threshold, or adds one;
+-- off the row's path and its splits no node changes, but for parent links that a split moves.
+pub record Local (s : Settings) (x : List Float) (t u : Tree) : Type 0 where
+  pub entry : OneEntry s x t u
+  pub node : (q : ℕ) → q < length (t .nodes) → (OnPath s x t q → ⊥) → Same (OnPath s x t) (length (t .nodes)) t u q

@@ -1,0 +1,145 @@
+-- What an accepted changing call leaves beside its tree: zeros past the counts and in scratch, and each buffer's surplus as lent.
+use Prim.Native.Nat.{ℕ, zero, suc, _+_, _≤_, _<_}
+use mathlib.Core.Path.{_≡_, refl, sym, subst}
+use mathlib.Core.Bool.{Bool, true, false}
+use mathlib.Core.List.{List, [], _∷_}
+use native.Mathlib.Omega.{arith}
+use lib.ListN.{length}
+use lib.Ieee.{Float}
+use Rattle.binary64.specs.Whole.{most}
+use Rattle.head.specs.declared.Settings.{Settings}
+use Rattle.head.specs.declared.Counters.{Counters}
+use Rattle.head.specs.declared.Head.{Head}
+use Rattle.head.specs.declared.refusal.Answer.the-variants.{Accepted}
+use Rattle.head.specs.Heads.{settingsOf}
+use Rattle.head.specs.Limits.{Sized, allowed-sized}
+use Rattle.rules.specs.declared.Verdict.the-variants.{Passes}
+use Rattle.rules.specs.Lists.{snoc, table}
+use Rattle.rules.specs.Tree.{Tree}
+use Rattle.rules.specs.Rebuild.{inserted, insertedAll}
+use Rattle.rules.specs.Refit.{refitted}
+use Rattle.rules.specs.Check.{checked, totalOf}
+use Rattle.rules.specs.Slices.{nodeIn, slotAt, treeOf}
+use Rattle.rules.specs.Calls.{Lent, lentTree, changeRefusals, changed, rowInserted, batchInserted, batchRefitted}
+use Rattle.rules.specs.RefusalLaws.{none-both}
+use Rattle.rules.specs.CallLaws.{accepted-done, Ready, change-ready}
+use Rattle.rules.specs.Cleared.{Clears, changed-clears}
+use Rattle.rules.specs.Held.{in-shaped}
+use Rattle.laws.specs.Counting.All.{All, all-append}
+use Rattle.laws.specs.Shapes.{ShapedTree, batch-shaped, refit-shaped}
+use Rattle.laws.specs.Check.Taken.{Binary64}
+use Rattle.laws.specs.Check.Both.{AtRest, passing-rests}
+use Rattle.laws.specs.Demand.{effective, rowsIn, Calls}
+use Rattle.laws.specs.Runs.Calls.{row-rests, batch-owning, effective-owning, idle-refit}
+use Rattle.laws.specs.Runs.Runs.{rest-total, effective-some}
+use Rattle.laws.specs.Runs.Lent.{standing, standing-owned}
+use Rattle.laws.specs.Runs.Fitting.{resting-fits}
+use Rattle.laws.specs.Runs.OneCall.{row-accepted, batch-accepted, refit-accepted}
+use Rattle.laws.specs.Runs.Public.{calls-rest}
+
+-- ---- a lent tree has its shape, whatever the slices hold
+
+all-table : {A : Type 0} (Q : A → Type 0) (f : ℕ → A) → ((i : ℕ) → Q (f i)) → (n : ℕ) → All Q (table f n)
+unfolding table snoc
+all-table Q f q zero = tt
+all-table Q f q (suc n) = all-append Q (table f n) (f n ∷ []) (all-table Q f q n) (q n, tt)
+
+lent-shaped : (s : Settings) → Sized s → (c : Counters) (fs : List Float) (ls : List ℕ) → ShapedTree s (treeOf s c fs ls)
+unfolding treeOf nodeIn
+lent-shaped s z c fs ls =
+    record {
+      nodes = all-table _ _ (λ i. in-shaped s z (slotAt s fs i)) (c .nodes);
+      entries = all-table _ _ (λ i. in-shaped s z _) (c .entries);
+    }
+
+module _ (h : Head) (l : Lent) where
+  abbrev s : Settings
+  s = settingsOf h
+
+  abbrev t : Tree
+  t = lentTree h (l .floats) (l .links)
+
+  -- ---- an accepted call had room and a passing tree
+
+  pub row-ready : (x : List Float) → rowInserted h l x .answer ≡ Accepted → Ready h l
+  unfolding rowInserted
+  row-ready x e = change-ready h l (none-both (changeRefusals h l) _ (accepted-done _ h l _ e .0) .0)
+
+  pub batch-ready : (xs : List Float) → batchInserted h l xs .answer ≡ Accepted → Ready h l
+  unfolding batchInserted
+  batch-ready xs e = change-ready h l (none-both (changeRefusals h l) _ (accepted-done _ h l _ e .0) .0)
+
+  pub refit-ready : (xs : List Float) → batchRefitted h l xs .answer ≡ Accepted → Ready h l
+  unfolding batchRefitted
+  refit-ready xs e = change-ready h l (none-both (changeRefusals h l) _ (accepted-done _ h l _ e .0) .0)
+
+  -- ---- from a tree at rest
+
+  module _ (rows : ℕ) (rest : checked s t ≡ Passes → AtRest s t rows) where
+    shaped : Sized s → ShapedTree s t
+    unfolding lentTree
+    shaped z = lent-shaped s z (h .counters) (l .floats) (l .links)
+
+    cleared : (u : Tree) (n : ℕ) → Sized s → AtRest s u n → ShapedTree s u → Clears h l (changed h l u)
+    cleared u n z r k = changed-clears h l u z (resting-fits z u n r k)
+
+    row-clears : (x : List Float) → rowInserted h l x .answer ≡ Accepted → Clears h l (rowInserted h l x)
+    row-clears x e =
+        let a = row-ready x e in
+        let z = allowed-sized h (a .allows) in
+        let r = rest (a .passes) in
+        let (is, small) = row-accepted h l x e in
+        let n = rest-total r in
+        let k : ShapedTree s (inserted s x t) = unfold insertedAll in batch-shaped s (x ∷ []) t (shaped z) in
+        subst (Clears h l) (sym is) (cleared (inserted s x t) (suc rows) z (row-rests z x t rows r (omega arith)) k)
+
+    batch-clears : (xs : List Float) → batchInserted h l xs .answer ≡ Accepted → Clears h l (batchInserted h l xs)
+    batch-clears xs e =
+        let a = batch-ready xs e in
+        let z = allowed-sized h (a .allows) in
+        let r = rest (a .passes) in
+        let (is, small) = batch-accepted h l xs e in
+        let n = rest-total r in
+        let o = batch-owning z (rowsIn h xs) t rows (standing 0 (t .entries)) (record { rests = r; owned = standing-owned t }) (omega arith) in
+        subst (Clears h l) (sym is)
+        (cleared (insertedAll s (rowsIn h xs) t) (rows + length (rowsIn h xs)) z (o .rests) (batch-shaped s (rowsIn h xs) t (shaped z)))
+
+    refit-clears : (xs : List Float) → batchRefitted h l xs .answer ≡ Accepted → Clears h l (batchRefitted h l xs)
+    refit-clears xs e =
+        let a = refit-ready xs e in
+        let z = allowed-sized h (a .allows) in
+        let (is, small) = refit-accepted h l xs e in
+        subst (Clears h l) (sym is) (go (effective (rowsIn h xs) t) z (rest (a .passes)) small refl)
+      where
+        go : (b : Bool) → Sized s → AtRest s t rows → (0 < length (t .entries) → length (rowsIn h xs) ≤ most) → effective (rowsIn h xs) t ≡ b
+            → Clears h l (changed h l (refitted s (rowsIn h xs) t))
+        go true z r small q =
+            let o = effective-owning z (rowsIn h xs) t rows (standing 0 (t .entries)) r q (small (effective-some (rowsIn h xs) t q)) in
+            cleared (refitted s (rowsIn h xs) t) (length (rowsIn h xs)) z (o .rests) (refit-shaped s (rowsIn h xs) t (shaped z))
+        go false z r small q =
+            let i = idle-refit s (rowsIn h xs) t [] q .0 in
+            subst (λ u. Clears h l (changed h l u)) (sym i) (cleared t rows z r (shaped z))
+
+  -- ---- any tree that is lent
+
+  module _ (n : Binary64 t) where
+    pub lent-row-clears : (x : List Float) → rowInserted h l x .answer ≡ Accepted → Clears h l (rowInserted h l x)
+    lent-row-clears = row-clears (totalOf (t .entries)) (passing-rests s t n)
+
+    pub lent-batch-clears : (xs : List Float) → batchInserted h l xs .answer ≡ Accepted → Clears h l (batchInserted h l xs)
+    lent-batch-clears = batch-clears (totalOf (t .entries)) (passing-rests s t n)
+
+    pub lent-refit-clears : (xs : List Float) → batchRefitted h l xs .answer ≡ Accepted → Clears h l (batchRefitted h l xs)
+    lent-refit-clears = refit-clears (totalOf (t .entries)) (passing-rests s t n)
+
+  -- ---- after any calls from creation on
+
+  module _ {ys : List (List Float)} {a : List ℕ} (c : Calls h (l .floats) (l .links) ys a) where
+    pub calls-row-clears : (x : List Float) → rowInserted h l x .answer ≡ Accepted → Clears h l (rowInserted h l x)
+    calls-row-clears = row-clears (length ys) (λ _. calls-rest c)
+
+    pub calls-batch-clears : (xs : List Float) → batchInserted h l xs .answer ≡ Accepted → Clears h l (batchInserted h l xs)
+    calls-batch-clears = batch-clears (length ys) (λ _. calls-rest c)
+
+    pub calls-refit-clears : (xs : List Float) → batchRefitted h l xs .answer ≡ Accepted → Clears h l (batchRefitted h l xs)
+    calls-refit-clears = refit-clears (length ys) (λ _. calls-rest c)

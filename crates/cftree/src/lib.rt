@@ -1,5 +1,6 @@
 // The public calls. Nothing is required of the caller: each takes any head, slices and rows, and does its work or gives one
-// of the seven refusals; a refused call changes no lent byte.
+// of the seven refusals. A refused call leaves every lent number as it was; a NaN's bytes too, since refusals are worked out
+// over slices that are lent to be read.
 pub mod change;
 pub mod look;
 

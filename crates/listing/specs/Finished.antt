@@ -3,6 +3,7 @@ use Prim.Native.Nat.{ℕ, _-_, _≤_}
 use mathlib.Core.List.{List, []}
 use mathlib.Core.Path.{_≡_, sym, ap, _∙_}
 use native.Mathlib.Omega.{arith}
+use denote.Floats.{passes, is-true}
 use lib.ListN.{length}
 use lib.Ieee.{Float}
 use Rattle.binary64.specs.Counts.{isCount}
@@ -17,12 +18,13 @@ use Rattle.laws.specs.Check.Accept.{every-at}
 use Rattle.arena.specs.Trees.{count-entries}
 use Rattle.validate.specs.Passing.{passing-floats, passing-counts}
 use Rattle.reports.specs.Entries.{Reportable}
+use Rattle.laws.specs.Runs.OneCall.{sizes-of}
 use Rattle.listing.specs.declared.Stage.{Stage}
 use Rattle.listing.specs.declared.Stage.the-variants as Stages
 use Rattle.listing.specs.declared.Run.{Run}
 use Rattle.listing.specs.Runs.{listedAt, listed, Grown, Stands, stage-stands}
 use Rattle.listing.specs.Heads.{floats-enough}
-use Rattle.listing.specs.Rows.{t-true, true-t, grown-rests, grown-passes, grown-total, grown-few}
+use Rattle.listing.specs.Rows.{grown-rests, grown-passes, grown-total, grown-few}
 
 -- a run over its rows can report, and each row weighs one
 pub reportable : {n : ℕ} {h : Head} {fs : List Float} {ks : List ℕ} → Grown n h fs ks → 5950 ≤ length fs → Reportable h (n - 2) fs ks
@@ -30,7 +32,7 @@ unfolding lentTree entryAt
 reportable {n} {h} {fs} {ks} g room =
     let s = settingsOf h in
     let c = h .counters in
-    let z = g .public .sizes in
+    let z = sizes-of (g .public) in
     let few = grown-few g in
     let enough = floats-enough s z few in
     let long = count-entries s c fs ks in
@@ -40,7 +42,8 @@ reportable {n} {h} {fs} {ks} g room =
       entries = record {
         floats-in = passing-floats s c fs ks (grown-passes g) z (omega arith);
         few = omega arith;
-        counts = (λ i l. t-true _ (every-at (λ e. isCount (e .weight)) blank (treeOf s c fs ks .entries) (true-t (passing-counts s c fs ks (grown-passes g) ks)) i (omega arith)));
+        counts = (λ i l. is-true _ (every-at (λ e. isCount (e .weight)) blank (treeOf s c fs ks .entries)
+            (passes _ (passing-counts s c fs ks (grown-passes g) ks)) i (omega arith)));
       };
       total-is = omega arith;
     }

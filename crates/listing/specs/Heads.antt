@@ -8,18 +8,18 @@ use native.Mathlib.Nat.{mul-le-mul}
 use native.Mathlib.Omega.{arith}
 use borrow.Author.Tests.{leb-true, le-leb}
 use lib.Dec.{leb, eqb}
-use lib.ListN.{length, drop}
+use lib.ListN.{length}
 use lib.Ieee.{Float}
 use Rattle.head.specs.declared.Head.{Head}
 use Rattle.head.specs.declared.Settings.{Settings}
 use Rattle.head.specs.declared.refusal.Answer.the-variants.{Accepted}
 use Rattle.head.specs.Heads.{settingsOf, newCounters, withCounters}
-use Rattle.head.specs.Limits.{Sized, both, allowed, allowed-sized, sizesWithin, choicesWithin}
+use Rattle.head.specs.Limits.{Sized, both, allowed, allowed-sized}
 use Rattle.head.specs.Sizes.{nodeCap, entryCap, floatsNeeded, linksNeeded, scratchFloatsNeeded, scratchLinksNeeded, slot-small, block-small}
-use Rattle.rules.specs.Tree.{Tree, fresh}
-use Rattle.rules.specs.Slices.{countersOf, floatsOf, linksOf}
-use Rattle.rules.specs.Stored.{Fits, stored}
-use Rattle.rules.specs.Calls.{Made, unless, settingsRefusal, roomRefusal, createRefusals, lentTree, fronted, madeBy, created}
+use Rattle.rules.specs.Tree.{fresh}
+use Rattle.rules.specs.Slices.{countersOf}
+use Rattle.rules.specs.Cleared.{changed-tree}
+use Rattle.rules.specs.Calls.{Made, changed, unless, settingsRefusal, roomRefusal, createRefusals, lentTree, madeBy, created}
 use Rattle.rules.specs.Listing.{andThen, badLine, taken, headFrom, firstLine, rowsListed, linesListed}
 use Rattle.laws.specs.Shapes.{fresh-shaped}
 use Rattle.laws.specs.Runs.Calls.{fresh-rests}
@@ -94,15 +94,6 @@ module _ (s : Settings) (z : Sized s) (few : s .«max_leaves» ≤ 24) where
   unfolding scratchLinksNeeded
   numbers-enough = let e = entries-enough in omega arith
 
--- ---- the tree that a call leaves in the slices
-
-pub held : (h : Head) (t : Tree) (fs : List Float) (ks : List ℕ) → Sized (settingsOf h) → Fits (settingsOf h) t
-    → lentTree (withCounters h (countersOf t)) (fronted (floatsOf (settingsOf h) t) fs) (fronted (linksOf (settingsOf h) t) ks) ≡ t
-unfolding lentTree fronted settingsOf withCounters
-held h t fs ks z f =
-    let s = settingsOf h in
-    stored s z t f (drop (length (floatsOf s t)) fs) (drop (length (linksOf s t)) ks)
-
 -- ---- creation
 
 module _ (h : Head) (ok : Taken h) (fs : List Float) (ks : List ℕ) (floats-room : 5950 ≤ length fs) (links-room : 6175 ≤ length ks) where
@@ -136,12 +127,10 @@ module _ (h : Head) (ok : Taken h) (fs : List Float) (ks : List ℕ) (floats-roo
       subst (λ (o : Made). Public (o .head) (o .floats) (o .links) [] []) as-made (after-create h fs ks accepts)
 
   made-tree : lentTree (madeBy [] h fs ks .head) (madeBy [] h fs ks .floats) (madeBy [] h fs ks .links) ≡ fresh x
-  unfolding madeBy newCounters countersOf fresh
-  made-tree = held h (fresh x) fs ks sized (resting-fits sized (fresh x) 0 (fresh-rests sized x) (fresh-shaped s x))
-
-  made-allowed : allowed (madeBy [] h fs ks .head) ≡ true
-  unfolding madeBy withCounters newCounters allowed sizesWithin choicesWithin
-  made-allowed = ok .1
+  unfolding madeBy changed newCounters countersOf fresh
+  made-tree =
+      changed-tree h (record { floats = fs; links = ks; scratchFloats = []; scratchLinks = [] }) (fresh x) sized
+      (resting-fits sized (fresh x) 0 (fresh-rests sized x) (fresh-shaped s x))
 
   first-some : (l : List ℕ) (ls : List (List ℕ)) → firstLine l ≡ some h → linesListed (l ∷ ls) ≡ rowsListed s 2 ls (fresh x)
   unfolding linesListed
@@ -158,7 +147,7 @@ module _ (h : Head) (ok : Taken h) (fs : List Float) (ks : List ℕ) (floats-roo
   unfolding Stands listed listedAt
   made-read run l e = record {
     none-left = refl;
-    stands = record { rows = []; owners = []; public = made-public; number = refl; few = (unfold madeBy withCounters in ok .0); allows = made-allowed };
+    stands = record { rows = []; owners = []; public = made-public; number = refl; few = (unfold madeBy withCounters in ok .0) };
     reads = (λ ls.
         let same : settingsOf (madeBy [] h fs ks .head) ≡ s = unfold madeBy withCounters settingsOf in refl in
         ap (λ q. rowsListed q 2 ls (lentTree (madeBy [] h fs ks .head) (madeBy [] h fs ks .floats) (madeBy [] h fs ks .links))) same

@@ -5,3 +5,4 @@ pub mod Heads
 pub mod Rows
 pub mod Finished
 pub mod Chunks
+pub mod Whole

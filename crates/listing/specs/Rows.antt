@@ -1,6 +1,5 @@
 -- A row's line: only a full tree refuses a row of dim floats, and any other goes on as the rules say.
 use Prim.Native.Nat.{ℕ, suc, _+_, _-_, _≤_, _<_}
-use mathlib.Core.Bool.{Bool, true, false}
 use mathlib.Core.List.{List, [], _∷_, _++_}
 use mathlib.Core.Option.{Option, none, some}
 use mathlib.Core.Path.{_≡_, refl, sym, ap, subst, _∙_}
@@ -8,28 +7,25 @@ use native.Mathlib.Nat.{sub-zero}
 use native.Mathlib.Omega.{arith}
 use native.Mathlib.Numerals.{add-one}
 use borrow.Author.Tests.{le-leb, lt-leb, eq-eqb}
-use lib.Dec.{T}
 use lib.ListN.{length, take, length-append}
-use lib.Ieee.{Float, le}
-use lib.Ieee.Scale.{finite}
-use Rattle.binary64.specs.Operators.{f0}
+use lib.Ieee.{Float}
 use Rattle.binary64.specs.Whole.{most}
 use Rattle.head.specs.declared.Head.{Head}
 use Rattle.head.specs.declared.Settings.{Settings}
 use Rattle.head.specs.Heads.{settingsOf, withCounters}
-use Rattle.head.specs.Limits.{Sized, both, allowed, sizesWithin, choicesWithin, thresholdWithin}
+use Rattle.head.specs.Limits.{Sized}
 use Rattle.rules.specs.Tree.{Tree}
 use Rattle.rules.specs.Rebuild.{inserted, insertedAll}
 use Rattle.rules.specs.Check.{checked, totalOf}
-use Rattle.rules.specs.Slices.{treeOf, countersOf}
-use Rattle.rules.specs.Stored.{Fits}
+use Rattle.rules.specs.Slices.{countersOf}
 use Rattle.rules.specs.Calls.{Lent, Left, unless, rowRefusals, lentTree, changed, rowShapeRefusal, insertFullRefusal}
 use Rattle.rules.specs.CallLaws.{Ready}
+use Rattle.rules.specs.Cleared.{changed-tree}
 use Rattle.rules.specs.Listing.{badLine, rowIn, lineIn, rowsListed}
 use Rattle.rules.specs.declared.Verdict.the-variants.{Passes}
 use Rattle.head.specs.declared.refusal.Refusal.the-variants.{Full}
 use Rattle.rules.specs.Lists.{rowsOf}
-use Rattle.laws.specs.Ownership.Owner.{ownersAll}
+use Rattle.laws.specs.Demand.{ownersAll}
 use Rattle.laws.specs.Runs.Runs as Past
 use Rattle.fronts.specs.declared.work.Work.the-variants.{Insert}
 use Rattle.fronts.specs.Worked.{worked, Workable}
@@ -38,9 +34,9 @@ use Rattle.laws.specs.Shapes.{ShapedTree, batch-shaped}
 use Rattle.laws.specs.Check.Both.{AtRest, resting-passes}
 use Rattle.laws.specs.Runs.Calls.{row-rests}
 use Rattle.laws.specs.Runs.Fitting.{resting-fits}
-use Rattle.laws.specs.Runs.Threshold.{Fine, all-fine}
+use Rattle.laws.specs.Runs.Threshold.{inserted-fine}
 use Rattle.laws.specs.Runs.Runs.{rest-total, run-owning}
-use Rattle.laws.specs.Runs.OneCall.{after}
+use Rattle.laws.specs.Runs.OneCall.{Public, sizes-of, next}
 use Rattle.text.specs.declared.RowLine.{RowLine}
 use Rattle.text.specs.declared.RowLine.the-variants.{Row, Malformed}
 use Rattle.text.specs.Rows.{RowRead, floatsIn, row-listed, malformed-listed}
@@ -48,13 +44,13 @@ use Rattle.listing.specs.declared.Run.{Run}
 use Rattle.listing.specs.declared.Stage.the-variants as Stages
 use Rattle.listing.specs.Runs.{listedAt, listed, Room, Grown, Stands, LineRead, badRun, bad-read}
 use Rattle.listing.specs.Lines.{row-none}
-use Rattle.listing.specs.Heads.{floats-enough, links-enough, scratch-enough, numbers-enough, held}
+use Rattle.listing.specs.Heads.{floats-enough, links-enough, scratch-enough, numbers-enough}
 
 -- ---- what a grown tree gives
 
 module _ {n : ℕ} {h : Head} {fs : List Float} {ks : List ℕ} (g : Grown n h fs ks) where
   pub grown-rests : AtRest (settingsOf h) (lentTree h fs ks) (length (g .rows))
-  grown-rests = run-owning (g .public .sizes) (g .public .run) .rests
+  grown-rests = run-owning (sizes-of (g .public)) (g .public .run) .rests
 
   pub grown-passes : checked (settingsOf h) (lentTree h fs ks) ≡ Passes
   grown-passes = resting-passes (settingsOf h) (lentTree h fs ks) (length (g .rows)) grown-rests
@@ -66,36 +62,7 @@ module _ {n : ℕ} {h : Head} {fs : List Float} {ks : List ℕ} (g : Grown n h f
   unfolding settingsOf
   grown-few = g .few
 
--- ---- the head keeps within its limits
-
-pub t-true : (b : Bool) → T b → b ≡ true
-t-true true h = refl
-t-true false h = absurd h
-
-pub true-t : {b : Bool} → b ≡ true → T b
-true-t e = subst T (sym e) tt
-
-limits-kept : (h : Head) (t : Tree) → allowed h ≡ true → Fine (t .threshold) → allowed (withCounters h (countersOf t)) ≡ true
-unfolding allowed sizesWithin choicesWithin thresholdWithin withCounters countersOf
-limits-kept h t e f =
-    let (a, b) = both (sizesWithin h) _ e in
-    let (c, d) = both (choicesWithin h) _ b in
-    rw (a, c, t-true (finite (t .threshold)) (f .0), t-true (le f0 (t .threshold)) (f .1))
-
-fine-now : (h : Head) (fs : List Float) (ks : List ℕ) → allowed h ≡ true → Fine (lentTree h fs ks .threshold)
-unfolding allowed thresholdWithin lentTree treeOf
-fine-now h fs ks e =
-    let (a, b) = both (sizesWithin h) _ e in
-    let (c, d) = both (choicesWithin h) _ b in
-    let (p, q) = both (finite (h .counters .threshold)) _ d in
-    (true-t p, true-t q)
-
 -- ---- one row
-
-changed-tree : (h : Head) (l : Lent) (t : Tree) → Sized (settingsOf h) → Fits (settingsOf h) t
-    → lentTree (changed h l t .head) (changed h l t .lent .floats) (changed h l t .lent .links) ≡ t
-unfolding changed
-changed-tree h l t z f = held h t (l .floats) (l .links) z f
 
 -- the lines l that say the row x
 abbrev pub Says : Settings → Tree → List Float → List ℕ → Type 0
@@ -134,7 +101,7 @@ module _ (run : Run) (l : Lent) (g : Grown (run .number) (run .head) (l .floats)
   u = inserted s x t
 
   sized : Sized s
-  sized = g .public .sizes
+  sized = sizes-of (g .public)
 
   -- what the call asks for
   pub ready : Ready h l
@@ -145,7 +112,7 @@ module _ (run : Run) (l : Lent) (g : Grown (run .number) (run .head) (l .floats)
       let c = scratch-enough s sized few in
       let d = numbers-enough s sized few in
       record {
-        allows = g .allows;
+        allows = g .public .allows;
         floats-room = (let p = room .floats-room in omega arith);
         links-room = (let p = room .links-room in omega arith);
         scratch-floats-room = (let p = room .scratch-room in omega arith);
@@ -183,6 +150,14 @@ module _ (run : Run) (l : Lent) (g : Grown (run .number) (run .head) (l .floats)
       unfolding insertedAll
       shaped-next = batch-shaped s (x ∷ []) t (g .public .shaped)
 
+      run-next : Past.Run s (g .public .threshold) u (g .rows ++ (x ∷ [])) (ownersAll s (x ∷ []) t (g .owners))
+      unfolding insertedAll
+      run-next = Past.insert {t = t} (x ∷ []) (let n = grown-total g in omega arith) (g .public .run)
+
+      public-next : Public (changed h l u .head) (changed h l u .lent .floats) (changed h l u .lent .links) (g .rows ++ (x ∷ []))
+          (ownersAll s (x ∷ []) t (g .owners))
+      public-next = next h l (g .public) u (g .rows ++ (x ∷ [])) (ownersAll s (x ∷ []) t (g .owners)) (inserted-fine s x t) run-next shaped-next
+
       tree-is : lentTree (o .head) (o .lent .floats) (o .lent .links) ≡ u
       tree-is =
           let rests = row-rests sized x t (length (g .rows)) (grown-rests g) (let n = g .number in omega arith) in
@@ -195,29 +170,15 @@ module _ (run : Run) (l : Lent) (g : Grown (run .number) (run .head) (l .floats)
       settings-are : settingsOf (o .head) ≡ s
       settings-are = ap settingsOf head-is ∙ (unfold settingsOf withCounters in refl)
 
-      run-next : Past.Run s (g .public .threshold) u (g .rows ++ (x ∷ [])) (ownersAll s (x ∷ []) t (g .owners))
-      unfolding insertedAll
-      run-next = Past.insert {t = t} (x ∷ []) (let n = grown-total g in omega arith) (g .public .run)
-
       grown-next : Grown (run .number + 1) (o .head) (o .lent .floats) (o .lent .links)
-      grown-next =
-          let tree = lentTree (o .head) (o .lent .floats) (o .lent .links) in
-          record {
-            rows = g .rows ++ (x ∷ []);
-            owners = ownersAll s (x ∷ []) t (g .owners);
-            public = record {
-              threshold = g .public .threshold;
-              sizes = subst Sized (sym settings-are) sized;
-              run = subst (λ (q : Settings). Past.Run q (g .public .threshold) tree (g .rows ++ (x ∷ [])) (ownersAll s (x ∷ []) t (g .owners))) (sym settings-are)
-                  (subst (λ (z : Tree). Past.Run s (g .public .threshold) z (g .rows ++ (x ∷ [])) (ownersAll s (x ∷ []) t (g .owners))) (sym tree-is) run-next);
-              shaped = subst (λ (q : Settings). ShapedTree q tree) (sym settings-are) (subst (ShapedTree s) (sym tree-is) shaped-next);
-            };
-            number = (let j = length-append (g .rows) (x ∷ []) in let n = g .number in omega arith);
-            few = subst (λ (q : Head). q .«max_leaves» ≤ 24) (sym head-is) (unfold withCounters in g .few);
-            allows =
-                ap allowed head-is
-                ∙ limits-kept h u (g .allows) (unfold insertedAll in all-fine s (x ∷ []) t (fine-now h (l .floats) (l .links) (g .allows)));
-          }
+      grown-next = record {
+        rows = g .rows ++ (x ∷ []);
+        owners = ownersAll s (x ∷ []) t (g .owners);
+        public = subst (λ (o : Left). Public (o .head) (o .lent .floats) (o .lent .links) (g .rows ++ (x ∷ [])) (ownersAll s (x ∷ []) t (g .owners)))
+            (sym as-changed) public-next;
+        number = (let j = length-append (g .rows) (x ∷ []) in let n = g .number in omega arith);
+        few = subst (λ (q : Head). q .«max_leaves» ≤ 24) (sym head-is) (unfold withCounters in g .few);
+      }
 
       row-some : (line : List ℕ) (ls : List (List ℕ)) → Says s t x line → rowsListed s (run .number) (line ∷ ls) t ≡ rowsListed s (suc (run .number)) ls u
       unfolding rowsListed rowIn

@@ -1,6 +1,6 @@
 -- A run between two chunks: what holds of it, and what it prints if so many lines or bytes follow.
 use Prim.Native.Nat.{ℕ, _+_, _-_, _≤_, _<_}
-use mathlib.Core.Bool.{true, false}
+use mathlib.Core.Bool.{false}
 use mathlib.Core.List.{List, [], _∷_, _++_, reverse, append-assoc}
 use mathlib.Core.Path.{_≡_, refl, sym, ap, subst, _∙_}
 use native.Mathlib.Nat.{sub-zero}
@@ -11,7 +11,6 @@ use lib.Seq.{take-suc, take-all, take-take, take-add, length-take-le}
 use lib.Ieee.{Float}
 use Rattle.head.specs.declared.Head.{Head}
 use Rattle.head.specs.Heads.{settingsOf}
-use Rattle.head.specs.Limits.{allowed}
 use Rattle.rules.specs.Tree.{Tree}
 use Rattle.rules.specs.Calls.{lentTree}
 use Rattle.rules.specs.Listing.{cut, linesOf, badLine, rowsListed, linesListed, rowlist}
@@ -94,7 +93,6 @@ pub record Grown (n : ℕ) (h : Head) (fs : List Float) (ks : List ℕ) : Type 0
   pub public : Public h fs ks rows owners
   pub number : n ≡ length rows + 2
   pub few : h .«max_leaves» ≤ 24
-  pub allows : allowed h ≡ true
 
 unfoldable pub Stands : Stage → Run → List Float → List ℕ → Type 0
 Stands Stages.First r fs ks = r .number ≡ 1

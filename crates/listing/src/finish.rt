@@ -3,7 +3,7 @@ ghost use mathlib.Core.Path.{_≡_};
 ghost use mathlib.Core.List.{[]};
 ghost use Prim.Native.Nat.{_≤_};
 ghost use lib.ListN.{length};
-ghost use Rattle.reports.specs.Lines.{Wrote};
+ghost use Rattle.reports.specs.Lines.{page, Wrote};
 ghost use Rattle.listing.specs.Runs.{Room, Stands, Reading, listed, printed};
 use crate::Run;
 use crate::Stage;
@@ -35,7 +35,7 @@ fn last_line(
 
 // What is printed where no line is left.
 fn print(run: Run, floats: &[f64], links: &[u32], out: &mut [u8]) -> usize
-    requires { ⌜ (5950 ≤ length (now floats)) × (8192 ≤ length (now out)) × Stands (run .stage) run (now floats) (now links) ⌝ }
+    requires { ⌜ (5950 ≤ length (now floats)) × (page ≤ length (now out)) × Stands (run .stage) run (now floats) (now links) ⌝ }
     ensures { λ r. ⌜ Wrote 0 (listed (run .stage) run (now (floats .entry)) (now (links .entry)) []) (now (out .entry)) (now (out .exit)) r ⌝ }
 {
     let stage = run.stage;
@@ -57,7 +57,7 @@ pub fn finish(
     out: &mut [u8],
 ) -> usize
     requires { ⌜ Room (length (now line)) (length (now floats)) (length (now links)) (length (now scratch)) (length (now numbers)) ⌝ }
-    requires { ⌜ Reading run (now floats) (now links) × (8192 ≤ length (now out)) ⌝ }
+    requires { ⌜ Reading run (now floats) (now links) × (page ≤ length (now out)) ⌝ }
     ensures { λ r. ⌜
         Wrote 0 (printed run (now (line .entry)) (now (floats .entry)) (now (links .entry)) []) (now (out .entry)) (now (out .exit)) r ⌝ }
 {

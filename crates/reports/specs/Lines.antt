@@ -12,6 +12,10 @@ use lib.Ieee.{Float}
 use Rattle.rules.specs.Listing.{placesOf, decimalOf, hexOf, lineOf, bytes, badLine}
 use Rattle.text.specs.Written.{written, written-both, written-length, decimal-length, hex-length}
 
+-- the bytes of an output that has room for any listing
+abbrev pub page : ℕ
+page = 8192
+
 -- the bytes bs are written from a place on, where there is room for them, and r is the place behind them
 pub record Wrote (at : ℕ) (bs before after : List ℕ) (r : ℕ) : Type 0 where
   pub bytes-in : after ≡ written at bs before

@@ -6,6 +6,7 @@ use libc::STDIN_FILENO;
 use libc::STDOUT_FILENO;
 use listing::Run;
 use listing::finish::finish;
+use reports::PAGE;
 
 // What was read of standard input.
 struct Input {
@@ -50,7 +51,7 @@ fn main() {
     let mut links = [0u32; 6175];
     let mut scratch = [0.0; 425];
     let mut numbers = [0u32; 75];
-    let mut out = [0u8; 8192];
+    let mut out = [0u8; PAGE];
     let input = read(
         &mut chunk,
         &mut line,

@@ -7,3 +7,4 @@ pub mod Words
 pub mod Written
 pub mod Firsts
 pub mod Rows
+pub mod Enough

@@ -1,37 +1,23 @@
--- `listing::list` meets its contract: all of the input is one chunk.
+-- `listing::list` meets its contract: an output that is too short stays as lent, and to any other the listing is written.
+use native.Mathlib.Omega.{arith}
 use borrow.Author.Needs.{needs}
-use Rattle.reports.specs.Lines.{wrote-is}
-use Rattle.listing.specs.Chunks.{all-listed}
+use Rattle.listing.specs.Whole.{list-refused, list-written}
 use Rattle.listing.proofs.list.Statement.{statement}
 use Rattle.listing.proofs.list.Tie as tie
 
-feed-requires : tie.Need-feed-requires
-feed-requires c κs =
-    let begin = c .before .before .before .before .before in
-    let start = begin .before .before .before .before .before .before .before .before in
-    (start .pre .0, begin .begin .ensures .reading _ _)
-
-finish-requires : tie.Need-finish-requires
-finish-requires c κs =
-    let feed = c .before .before .before .before .before .before .before .before .before .before .before .before .before .before .before .before in
-    let start = feed .before .before .before .before .before .before .before .before .before .before .before .before .before .before in
-    let new = feed .feed in
-    let kept = new .kept in
-    let pre = start .pre in
-    (rw (kept .1 .1 .0, kept .1 .1 .1 .0, kept .1 .1 .1 .1 .0, kept .1 .1 .1 .1 .1 .0, kept .1 .1 .1 .1 .1 .1 .0) (pre .0), (new .ensures .0, pre .1))
-
 returns : tie.Need-returns
 returns c =
-    let finish = c .before .before .before .before .before .before .before .before .before .before in
-    let feed = finish .before .before .before .before .before .before .before .before .before .before .before .before .before .before .before .before
-    .before in
-    let at-begin = feed .before .before .before .before .before .before in
-    let start = at-begin .before .before .before .before .before .before .before .before in
-    let a = start .args in
-    let begin = at-begin .begin in
-    wrote-is (all-listed (begin .result) (a .line .now) (a .floats .now) (a .links .now) (begin .ensures) (feed .feed .ensures .1)) (finish .finish .ensures)
+    let start = c .before .before .before in
+    list-refused (start .args .input .now) (start .args .out .now) (let short = c .if1 .taken in omega arith)
+
+returns-2 : tie.Need-returns-2
+returns-2 c =
+    let listed = c .before .before .before .before .before .before .before in
+    let test = listed .before .before .before .before .before .before .before in
+    let start = test .before .before .before in
+    list-written (start .args .input .now) (start .args .out .now) (let long = test .if1 .left in omega arith) (listed .list-in .ensures)
 
 pub list-spec : {M : Type 1} → statement M
 list-spec =
-    tie.close (tie.spec (λ c κs. search needs) feed-requires finish-requires (λ c. search needs) (λ c. search needs) (λ c. search needs)
-    (λ c. search needs) (λ c. search needs) (λ c. search needs) returns)
+    tie.close (tie.spec returns (λ c. search needs) (λ c. search needs) (λ c. search needs) (λ c. search needs) (λ c. search needs)
+    (λ c κs. search needs) (λ c. search needs) returns-2)

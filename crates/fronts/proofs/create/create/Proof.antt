@@ -4,9 +4,11 @@ use mathlib.Core.Path.{_≡_, _∙_}
 use native.Mathlib.Omega.{arith}
 use borrow.Author.Needs.{needs}
 use lib.ListN.{length}
-use Rattle.fronts.specs.Whole.{made-whole, sized}
+use Rattle.fronts.specs.Fronts.{TreeLeft}
+use Rattle.fronts.specs.Whole.{made-whole}
 use Rattle.head.specs.Heads.{settingsOf}
 use Rattle.head.specs.Sizes.{floatsNeeded, linksNeeded}
+use Rattle.rules.specs.Tree.{fresh}
 use native.Mathlib.Nat.{sub-zero}
 use lib.Seq.{length-take-le}
 use Rattle.fronts.proofs.create.create.Statement.{statement}
@@ -50,7 +52,10 @@ returns c =
     let a = c .before .before .before .before .before .before .before .before .before .before .before .before .before .args in
     let sizes = (c .before .before .before .before .before .before .before .before) in
     let new = c .before .before .before .before .before .empty in
-    made-whole (a .h) (a .floats .now) (a .links .now) (rw (c .before .before .before .before .before .before .before .before .before .before .settings .ensures) at (new .ensures)) (c .with-counters .ensures)
+    let settings = c .before .before .before .before .before .before .before .before .before .before .settings .ensures in
+    let empty : TreeLeft (settingsOf (a .h)) (fresh (a .h .counters .threshold)) (new .result) (new .last .1 .1 .0) (new .last .1 .1 .1 .0) =
+    rw settings at (new .ensures) in
+    made-whole (a .h) (a .floats .now) (a .links .now) empty (c .with-counters .ensures)
     (new .kept .1 .1 .0 ∙ length-take-le _ _ (floats-end sizes)) (new .kept .1 .1 .1 .0 ∙ length-take-le _ _ (links-end sizes))
 
 pub create-spec : {M : Type 1} → statement M

@@ -51,7 +51,8 @@ returns-2 c =
     let both-alive = c .before .before .before .before .before .before .both-alive in
     let test = c .before .before .before .before .before .if1 .left in
     let merge-two = c .before .before .before .merge-two in
-    pair-merged _ _ (start .args .k) (start .args .m) _ _ (start .pre .1 .0) _ (merge-two .result) (second-in start)
+    pair-merged (start .args .s) (start .args .n) (start .args .k) (start .args .m) (start .args .floats .now) (start .args .numbers .now)
+    (start .pre .1 .0) _ (merge-two .result) (second-in start)
     (merge-two .ensures .0) (merge-two .ensures .1) (sym (both-alive .ensures) ∙ not-false _ test)
 
 pub merge-pair-spec : {M : Type 1} → statement M

@@ -1,4 +1,4 @@
--- The row's path: the nodes from the leaf that its descent finds up to the root.
+-- The row's path has its leaf, and with each node that node's parent.
 use Prim.Native.Nat.{ℕ, zero, suc, _+_, _<_}
 use mathlib.Core.Path.{_≡_, refl, sym, ap, _∙_, subst}
 use mathlib.Core.Logic.{_⊎_, inl, inr, _≢_}

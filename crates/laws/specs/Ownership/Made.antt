@@ -1,4 +1,4 @@
--- What an entry is made of: rows pushed, each named by its place in order of arrival, and merges.
+-- Makings: what keeps each owner of rows made of just these rows, when a row comes and when two are merged.
 use Prim.Native.Nat.{ℕ, zero, suc, _+_, _≤_, _<_}
 use mathlib.Core.Path.{_≡_, refl, sym, ap, _∙_}
 use mathlib.Core.Logic.{_⊎_, inl, inr, _≢_}

@@ -1,4 +1,4 @@
--- Demand 3 at the end of any run: a fresh tree, and any accepted calls but creation, each on what the last one left.
+-- The promise at the end of any run over the rules: a fresh tree, and any accepted calls but creation, each on what the last one left.
 use Prim.Native.Nat.{ℕ, zero, suc, _+_, _≤_, _<_}
 use mathlib.Core.Path.{_≡_, refl, sym, ap, _∙_, subst}
 use mathlib.Core.Logic.{inl, inr}

@@ -47,18 +47,20 @@ fresh-fits s threshold =
     shaped zero e = unfold blankNode in blank-shaped (s .feature) (s .dim)
     shaped (suc i) e = absurd (omega arith)
 
+-- an accepted creation passed every test, and is done
+pub made-done : (rs : List Refusal) (h : Head) (fs : List Float) (ls : List ℕ) → madeBy rs h fs ls .answer ≡ Accepted
+    → (rs ≡ []) × (madeBy rs h fs ls ≡ madeBy [] h fs ls)
+unfolding madeBy
+made-done [] h fs ls e = (refl, refl)
+made-done (r ∷ rs) h fs ls e = let z : _≡_ {A = ℕ} 0 1 = cc in absurd (omega arith)
+
 module _ (h : Head) (fs : List Float) (ls : List ℕ) (e : created h fs ls .answer ≡ Accepted) where
   abbrev made-tree : Tree
   made-tree = fresh (h .counters .threshold)
 
-  made-of : (rs : List Refusal) → madeBy rs h fs ls .answer ≡ Accepted → (rs ≡ []) × (madeBy rs h fs ls ≡ madeBy [] h fs ls)
-  unfolding madeBy
-  made-of [] e = (refl, refl)
-  made-of (r ∷ rs) e = let z : _≡_ {A = ℕ} 0 1 = cc in absurd (omega arith)
-
   made : (createRefusals h fs ls ≡ []) × (created h fs ls ≡ madeBy [] h fs ls)
   unfolding created
-  made = made-of (createRefusals h fs ls) e
+  made = made-done (createRefusals h fs ls) h fs ls e
 
   made-sized : Sized (settingsOf h)
   unfolding createRefusals settingsRefusal

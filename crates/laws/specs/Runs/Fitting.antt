@@ -1,27 +1,20 @@
 -- A tree at rest fits its slots.
-use mathlib.Core.Bool.{Bool, true, false}
-use Prim.Native.Nat.{ℕ, _-_, _≤_}
+use Prim.Native.Nat.{ℕ}
 use native.Mathlib.Omega.{arith}
 use Rattle.feature.specs.Summaries.{blank}
 use Rattle.feature.specs.Shape.{Shaped, blank-shaped}
 use Rattle.head.specs.declared.Settings.{Settings}
-use Rattle.head.specs.Sizes.{entryCap, blockWidth, nodes-small}
+use Rattle.head.specs.Sizes.{entryCap, nodes-small}
 use Rattle.head.specs.Limits.{Sized}
-use Rattle.rules.specs.Tree.{Tree, nodeAt, entryAt, blankNode, cap}
+use Rattle.rules.specs.Tree.{Tree, nodeAt, entryAt, blankNode}
 use Rattle.rules.specs.Slices.{noParent}
 use Rattle.rules.specs.Stored.{Fits}
+use Rattle.rules.specs.Held.{cap-in}
 use Rattle.laws.specs.Shapes.{ShapedTree}
 use Rattle.laws.specs.Counting.All.{all-at}
 use Rattle.laws.specs.ForCode.{sure-of}
 use Rattle.laws.specs.Check.Both.{AtRest}
 use Rattle.laws.specs.Room.Kept.{holding-room}
-
--- ---- a tree at rest fits its slots
-
-cap-in : (s : Settings) (b : Bool) → cap s b ≤ blockWidth s - 2
-unfolding cap blockWidth
-cap-in s true = omega arith
-cap-in s false = omega arith
 
 pub resting-fits : {s : Settings} → Sized s → (t : Tree) (rows : ℕ) → AtRest s t rows → ShapedTree s t → Fits s t
 unfolding entryCap

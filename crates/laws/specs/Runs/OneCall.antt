@@ -23,6 +23,7 @@ use Rattle.rules.specs.Slices.{countersOf, floatsOf, linksOf}
 use Rattle.rules.specs.ListLaws.{rows-count}
 use Rattle.rules.specs.CallLaws.{accepted-done}
 use Rattle.rules.specs.Cleared.{changed-tree}
+use Rattle.rules.specs.Creation.{made-done}
 use Rattle.rules.specs.RefusalLaws.{none-both, unless-none, room-none, insert-full-none, refit-full-none}
 use Rattle.rules.specs.Lists.{rowsOf}
 use Rattle.rules.specs.Stored.{stored}
@@ -209,12 +210,6 @@ module _ (h : Head) (l : Lent) where
 abbrev PublicMade : Made → Type 0
 PublicMade m = Public (m .head) (m .floats) (m .links) [] []
 
-made-none : (rs : List Refusal) (h : Head) (fs : List Float) (ls : List ℕ) → madeBy rs h fs ls .answer ≡ Accepted
-    → (rs ≡ []) × (madeBy rs h fs ls ≡ madeBy [] h fs ls)
-unfolding madeBy
-made-none [] h fs ls e = (refl, refl)
-made-none (r ∷ rs) h fs ls e = let z : _≡_ {A = ℕ} 0 1 = cc in absurd (omega arith)
-
 module _ (h : Head) (fs : List Float) (ls : List ℕ) where
   abbrev new : Settings
   new = settingsOf h
@@ -240,7 +235,7 @@ module _ (h : Head) (fs : List Float) (ls : List ℕ) where
   unfolding created createRefusals settingsRefusal
   after-create e =
       let more = roomRefusal (floatsNeeded new) (length fs) ++ roomRefusal (linksNeeded new) (length ls) in
-      let (rs, is) = made-none (settingsRefusal h ++ more) h fs ls e in
+      let (rs, is) = made-done (settingsRefusal h ++ more) h fs ls e in
       let (a, b) = none-both (settingsRefusal h) more rs in
       let (c, d) = none-both (roomRefusal (floatsNeeded new) (length fs)) (roomRefusal (linksNeeded new) (length ls)) b in
       subst PublicMade (sym is) (fresh-made (unless-none (allowed h) Refusals.Settings a) (room-none _ _ c) (room-none _ _ d))

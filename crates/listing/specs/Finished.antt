@@ -19,6 +19,7 @@ use Rattle.arena.specs.Trees.{count-entries}
 use Rattle.validate.specs.Passing.{passing-floats, passing-counts}
 use Rattle.reports.specs.Entries.{Reportable}
 use Rattle.laws.specs.Runs.OneCall.{sizes-of}
+use Rattle.reasons.specs.declared.Reason.{Reason}
 use Rattle.listing.specs.declared.Stage.{Stage}
 use Rattle.listing.specs.declared.Stage.the-variants as Stages
 use Rattle.listing.specs.declared.Run.{Run}
@@ -66,6 +67,6 @@ module _ (r : Run) (fs : List Float) (ks : List ℕ) where
   unfolding Stands listed listedAt linesListed
   first-end e k = ap badLine (stage-stands r Stages.First e fs ks k) ∙ at-stage Stages.First e
 
-  pub bad-end : r .stage ≡ Stages.Bad → badLine (r .number) ≡ listed (r .stage) r fs ks []
+  pub bad-end : {why : Reason} → r .stage ≡ Stages.Bad why → badLine (r .number) ≡ listed (r .stage) r fs ks []
   unfolding listed listedAt
-  bad-end e = at-stage Stages.Bad e
+  bad-end {why} e = at-stage (Stages.Bad why) e

@@ -25,6 +25,7 @@ use Rattle.laws.specs.Shapes.{fresh-shaped}
 use Rattle.laws.specs.Runs.Calls.{fresh-rests}
 use Rattle.laws.specs.Runs.Fitting.{resting-fits}
 use Rattle.laws.specs.Runs.OneCall.{Public, after-create}
+use Rattle.reasons.specs.declared.Reason.{Reason}
 use Rattle.listing.specs.declared.Run.{Run}
 use Rattle.listing.specs.declared.Stage.the-variants as Stages
 use Rattle.listing.specs.Runs.{listedAt, listed, Stands, LineRead, badRun, bad-read}
@@ -161,7 +162,7 @@ module _ (h : Head) (ok : Taken h) (fs : List Float) (ks : List ℕ) (floats-roo
 
 -- ---- no head
 
-pub no-head : (run : Run) {q : Run} → q ≡ badRun run → (l : List ℕ) (fs : List Float) (ks : List ℕ) → Stands Stages.First run fs ks → firstLine l ≡ none
-    → LineRead (listed Stages.First run fs ks) l q fs ks
+pub no-head : (run : Run) {q : Run} (why : Reason) → q ≡ badRun why run → (l : List ℕ) (fs : List Float) (ks : List ℕ)
+    → Stands Stages.First run fs ks → firstLine l ≡ none → LineRead (listed Stages.First run fs ks) l q fs ks
 unfolding Stands listed listedAt
-no-head run b l fs ks k e = bad-read run b l fs ks (listed Stages.First run fs ks) (λ ls. first-none l ls e ∙ ap badLine (sym k))
+no-head run why b l fs ks k e = bad-read run why b l fs ks (listed Stages.First run fs ks) (λ ls. first-none l ls e ∙ ap badLine (sym k))

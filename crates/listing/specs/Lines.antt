@@ -15,14 +15,16 @@ use Rattle.head.specs.declared.Head.{Head}
 use Rattle.head.specs.declared.Settings.{Settings}
 use Rattle.head.specs.Heads.{settingsOf}
 use Rattle.rules.specs.Tree.{Tree, fresh}
+use Rattle.rules.specs.Calls.{lentTree}
 use Rattle.rules.specs.Listing.{cut, badLine, firstLine, lineIn, rowsListed, linesListed}
 use Rattle.text.specs.Fields.{cut-yes, cut-no}
 use Rattle.text.specs.Firsts.{line-long, stops}
 use Rattle.text.specs.Rows.{line-floats, floats-long}
+use Rattle.reasons.specs.declared.Reason.{Reason}
 use Rattle.listing.specs.declared.Stage.{Stage}
 use Rattle.listing.specs.declared.Stage.the-variants as Stages
 use Rattle.listing.specs.declared.Run.{Run}
-use Rattle.listing.specs.Runs.{reads-more, listedAt, listed, printed, Reads, Stands, Reading, LineRead, badRun}
+use Rattle.listing.specs.Runs.{reads-more, listedAt, listed, printed, Reads, Stands, Reading, LineRead, badRun, bad-stands, bad-lists}
 
 -- ---- pieces
 
@@ -67,7 +69,7 @@ too-long : (st : Stage) (r : Run) (fs : List Float) (ks : List ℕ) (l : List �
 unfolding Stands listed listedAt
 too-long Stages.First r fs ks l ls k h = first-none l ls (line-long l h) ∙ ap badLine (sym k)
 too-long Stages.Rows r fs ks l ls k h = row-none _ _ _ l ls (line-floats _ _ l ∙ stops _ _ (floats-long l h))
-too-long Stages.Bad r fs ks l ls k h = refl
+too-long (Stages.Bad why) r fs ks l ls k h = refl
 
 -- ---- one byte more
 
@@ -77,10 +79,10 @@ pub record Pushed (run : Run) (b : ℕ) (before : List ℕ) (r : Run) (after : L
   pub reads : (fs : List Float) (ks : List ℕ) → Reading run fs ks → (b ≡ 10 → ⊥) → Reads (printed run before fs ks) (b ∷ []) (printed r after fs ks)
 
 module _ (run : Run) (b : ℕ) (line : List ℕ) (room : 200 ≤ length line) where
-  pub pushed-bad : run .long ≡ 200 → Pushed run b line (badRun run) line
-  unfolding badRun Stands printed listed listedAt
-  pushed-bad e = record {
-    reading = (λ fs ks w. record { short = omega arith; stands = tt });
+  pub pushed-bad : (why : Reason) → run .long ≡ 200 → Pushed run b line (badRun why run) line
+  unfolding badRun printed listed
+  pushed-bad why e = record {
+    reading = (λ fs ks w. record { short = omega arith; stands = bad-stands (run .stage) why (badRun why run) fs ks });
     reads = (λ fs ks w n. record {
       then = λ rest.
           let p = reverse (take (run .long) line) in
@@ -88,7 +90,8 @@ module _ (run : Run) (b : ℕ) (line : List ℕ) (room : 200 ≤ length line) wh
           let k = length-take-le (run .long) line (omega arith) in
           let g = longer (b ∷ p) rest (omega arith) in
           let z = g .3 in
-          sym (ap (listed (run .stage) run fs ks) (cut-byte b p rest n ∙ g .2) ∙ too-long (run .stage) run fs ks (g .0) (g .1) (w .stands) (omega arith));
+          bad-lists (run .stage) why (run .number) (run .head) (lentTree (run .head) fs ks) (cut 10 false [] rest)
+          ∙ sym (ap (listed (run .stage) run fs ks) (cut-byte b p rest n ∙ g .2) ∙ too-long (run .stage) run fs ks (g .0) (g .1) (w .stands) (omega arith));
     });
   }
 
@@ -99,7 +102,7 @@ module _ (run : Run) (b : ℕ) (line : List ℕ) (room : 200 ≤ length line) wh
   unfolding Stands
   same-stands Stages.First fs ks k = k
   same-stands Stages.Rows fs ks k = k
-  same-stands Stages.Bad fs ks k = tt
+  same-stands (Stages.Bad why) fs ks k = tt
 
   pub pushed-byte : run .long < 200 → Pushed run b line grown (set line (run .long) b)
   unfolding printed listed

@@ -40,6 +40,7 @@ use Rattle.laws.specs.Runs.OneCall.{Public, sizes-of, next}
 use Rattle.text.specs.declared.RowLine.{RowLine}
 use Rattle.text.specs.declared.RowLine.the-variants.{Row, Malformed}
 use Rattle.text.specs.Rows.{RowRead, floatsIn, row-listed, malformed-listed}
+use Rattle.reasons.specs.declared.Reason.{Reason}
 use Rattle.listing.specs.declared.Run.{Run}
 use Rattle.listing.specs.declared.Stage.the-variants as Stages
 use Rattle.listing.specs.Runs.{listedAt, listed, Room, Grown, Stands, LineRead, badRun, bad-read}
@@ -78,12 +79,12 @@ module _ (run : Run) (l : List ℕ) (fs : List Float) (ks : List ℕ) (before af
       subst (λ n. Says s t (take n after) l) (sym (sub-zero (run .head .dim)))
       (row-listed s t l before after (subst (RowRead (run .head .dim) (floatsIn l) before after) e w))
 
-  pub malformed-read : a ≡ Malformed → {q : Run} → q ≡ badRun run → LineRead (listed Stages.Rows run fs ks) l q fs ks
+  pub malformed-read : a ≡ Malformed → {q : Run} (why : Reason) → q ≡ badRun why run → LineRead (listed Stages.Rows run fs ks) l q fs ks
   unfolding listed listedAt settingsOf
-  malformed-read e b =
+  malformed-read e why b =
       let s = settingsOf (run .head) in
       let t = lentTree (run .head) fs ks in
-      bad-read run b l fs ks (listed Stages.Rows run fs ks) (λ ls.
+      bad-read run why b l fs ks (listed Stages.Rows run fs ks) (λ ls.
       row-none s (run .number) t l ls (malformed-listed s t l before after (subst (RowRead (run .head .dim) (floatsIn l) before after) e w)))
 
 module _ (run : Run) (l : Lent) (g : Grown (run .number) (run .head) (l .floats) (l .links)) {lines : ℕ}
@@ -134,11 +135,11 @@ module _ (run : Run) (l : Lent) (g : Grown (run .number) (run .head) (l .floats)
     none-wrong k = let n = grown-total g in rw (eq-eqb (length x) (run .head .dim) e, le-leb (totalOf (t .entries) + 1) most (omega arith))
 
     -- a full tree refuses the row: the line is bad
-    pub full-read : most + 1 < run .number → {q : Run} → q ≡ badRun run → (line : List ℕ) → Says s t x line → (fs : List Float) (ks : List ℕ)
-        → LineRead (listed Stages.Rows run (l .floats) (l .links)) line q fs ks
+    pub full-read : most + 1 < run .number → {q : Run} (why : Reason) → q ≡ badRun why run → (line : List ℕ) → Says s t x line
+        → (fs : List Float) (ks : List ℕ) → LineRead (listed Stages.Rows run (l .floats) (l .links)) line q fs ks
     unfolding listed listedAt rowIn
-    full-read k b line y fs ks =
-        bad-read run b line fs ks (listed Stages.Rows run (l .floats) (l .links))
+    full-read k why b line y fs ks =
+        bad-read run why b line fs ks (listed Stages.Rows run (l .floats) (l .links))
         (λ ls. row-none s (run .number) t line ls (y ∙ ap (rowIn s t x) (full-wrong k)))
 
     -- any other takes it: the rules' tree is in the slices

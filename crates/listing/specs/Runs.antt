@@ -15,6 +15,7 @@ use Rattle.rules.specs.Tree.{Tree}
 use Rattle.rules.specs.Calls.{lentTree}
 use Rattle.rules.specs.Listing.{cut, linesOf, badLine, rowsListed, linesListed, rowlist}
 use Rattle.laws.specs.Runs.OneCall.{Public}
+use Rattle.reasons.specs.declared.Reason.{Reason}
 use Rattle.listing.specs.declared.Stage.{Stage}
 use Rattle.listing.specs.declared.Stage.the-variants as Stages
 use Rattle.listing.specs.declared.Run.{Run}
@@ -25,7 +26,7 @@ use Rattle.listing.specs.declared.Run.{Run}
 unfoldable pub listedAt : Stage → ℕ → Head → Tree → List (List ℕ) → List ℕ
 listedAt Stages.First n h t ls = linesListed ls
 listedAt Stages.Rows n h t ls = rowsListed (settingsOf h) n ls t
-listedAt Stages.Bad n h t ls = badLine n
+listedAt (Stages.Bad why) n h t ls = badLine n
 
 unfoldable pub listed : Stage → Run → List Float → List ℕ → List (List ℕ) → List ℕ
 listed stage r fs ks ls = listedAt stage (r .number) (r .head) (lentTree (r .head) fs ks) ls
@@ -97,7 +98,7 @@ pub record Grown (n : ℕ) (h : Head) (fs : List Float) (ks : List ℕ) : Type 0
 unfoldable pub Stands : Stage → Run → List Float → List ℕ → Type 0
 Stands Stages.First r fs ks = r .number ≡ 1
 Stands Stages.Rows r fs ks = Grown (r .number) (r .head) fs ks
-Stands Stages.Bad r fs ks = Unit
+Stands (Stages.Bad why) r fs ks = Unit
 
 pub record Reading (r : Run) (fs : List Float) (ks : List ℕ) : Type 0 where
   pub short : r .long ≤ 200
@@ -108,6 +109,11 @@ pub record LineRead (before : List (List ℕ) → List ℕ) (l : List ℕ) (r : 
   pub none-left : r .long ≡ 0
   pub stands : Stands (r .stage) r fs ks
   pub reads : (ls : List (List ℕ)) → listed (r .stage) r fs ks ls ≡ before (l ∷ ls)
+
+-- the run r has no line left, and what is printed is bs: a report or a bad line, as its stage says
+pub record Ended (r : Run) (bs : List ℕ) (fs : List Float) (ks : List ℕ) : Type 0 where
+  pub stands : Stands (r .stage) r fs ks
+  pub lists : listed (r .stage) r fs ks [] ≡ bs
 
 -- a run that has read nothing prints the listing of what follows
 pub record Begun (r : Run) : Type 0 where
@@ -120,17 +126,39 @@ begun h = record { reading = (λ fs ks. record { short = omega arith; stands = r
 
 -- ---- the line that is being read is bad
 
-unfoldable pub badRun : Run → Run
-badRun r = record { head = r .head; stage = Stages.Bad; number = r .number; long = 0 }
+-- a bad run stays bad for its own reason
+unfoldable pub badStage : Stage → Reason → Stage
+badStage Stages.First why = Stages.Bad why
+badStage Stages.Rows why = Stages.Bad why
+badStage (Stages.Bad first) why = Stages.Bad first
 
-module _ (r : Run) {q : Run} (e : q ≡ badRun r) (l : List ℕ) (fs : List Float) (ks : List ℕ) where
+unfoldable pub badRun : Reason → Run → Run
+badRun why r = record { head = r .head; stage = badStage (r .stage) why; number = r .number; long = 0 }
+
+pub bad-stands : (st : Stage) (why : Reason) (r : Run) (fs : List Float) (ks : List ℕ) → Stands (badStage st why) r fs ks
+unfolding badStage Stands
+bad-stands Stages.First why r fs ks = tt
+bad-stands Stages.Rows why r fs ks = tt
+bad-stands (Stages.Bad first) why r fs ks = tt
+
+pub bad-lists : (st : Stage) (why : Reason) (n : ℕ) (h : Head) (t : Tree) (ls : List (List ℕ)) → listedAt (badStage st why) n h t ls ≡ badLine n
+unfolding badStage listedAt
+bad-lists Stages.First why n h t ls = refl
+bad-lists Stages.Rows why n h t ls = refl
+bad-lists (Stages.Bad first) why n h t ls = refl
+
+module _ (r : Run) {q : Run} (why : Reason) (e : q ≡ badRun why r) (l : List ℕ) (fs : List Float) (ks : List ℕ) where
   pub bad-read : (before : List (List ℕ) → List ℕ) → ((ls : List (List ℕ)) → before (l ∷ ls) ≡ badLine (r .number)) → LineRead before l q fs ks
-  unfolding badRun Stands listed listedAt
+  unfolding badRun listed
   bad-read before h =
-      subst (λ (q : Run). LineRead before l q fs ks) (sym e) (record { none-left = refl; stands = tt; reads = (λ ls. sym (h ls)) })
+      subst (λ (q : Run). LineRead before l q fs ks) (sym e) (record {
+        none-left = refl;
+        stands = bad-stands (r .stage) why (badRun why r) fs ks;
+        reads = (λ ls. bad-lists (r .stage) why (r .number) (r .head) (lentTree (r .head) fs ks) ls ∙ sym (h ls));
+      })
 
   -- so is every line behind a bad one
-  pub still-bad : r .stage ≡ Stages.Bad → LineRead (listed (r .stage) r fs ks) l q fs ks
+  pub still-bad : {first : Reason} → r .stage ≡ Stages.Bad first → LineRead (listed (r .stage) r fs ks) l q fs ks
   unfolding listed listedAt
   still-bad h = bad-read (listed (r .stage) r fs ks) (λ ls. ap (λ st. listedAt st (r .number) (r .head) (lentTree (r .head) fs ks) (l ∷ ls)) h)
 

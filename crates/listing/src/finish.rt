@@ -4,7 +4,7 @@ ghost use mathlib.Core.List.{[]};
 ghost use Prim.Native.Nat.{_≤_};
 ghost use lib.ListN.{length};
 ghost use Rattle.reports.specs.Lines.{page, Wrote};
-ghost use Rattle.listing.specs.Runs.{Room, Stands, Reading, listed, printed};
+ghost use Rattle.listing.specs.Runs.{Room, Stands, Reading, Ended, listed, printed};
 use crate::Run;
 use crate::Stage;
 use crate::lines;
@@ -42,11 +42,17 @@ fn print(run: Run, floats: &[f64], links: &[u32], out: &mut [u8]) -> usize
     match stage {
         Stage::First => write_bad(run.number, out),
         Stage::Rows => write_report(run.head, run.number - 2, floats, links, out),
-        Stage::Bad => write_bad(run.number, out),
+        Stage::Bad(_) => write_bad(run.number, out),
     }
 }
 
-// Writes what the run prints to the front of out; gives its length.
+// A run with no line left, and how many bytes it has printed.
+pub struct End {
+    pub run: Run,
+    pub long: usize,
+}
+
+// Writes what the run prints to the front of out.
 pub fn finish(
     run: Run,
     line: &[u8],
@@ -55,12 +61,15 @@ pub fn finish(
     scratch: &mut [f64],
     numbers: &mut [u32],
     out: &mut [u8],
-) -> usize
+) -> End
     requires { ⌜ Room (length (now line)) (length (now floats)) (length (now links)) (length (now scratch)) (length (now numbers)) ⌝ }
     requires { ⌜ Reading run (now floats) (now links) × (page ≤ length (now out)) ⌝ }
     ensures { λ r. ⌜
-        Wrote 0 (printed run (now (line .entry)) (now (floats .entry)) (now (links .entry)) []) (now (out .entry)) (now (out .exit)) r ⌝ }
+        Wrote 0 (printed run (now (line .entry)) (now (floats .entry)) (now (links .entry)) []) (now (out .entry)) (now (out .exit)) (r .long) ⌝ }
+    ensures { λ r. ⌜
+        Ended (r .run) (printed run (now (line .entry)) (now (floats .entry)) (now (links .entry)) []) (now (floats .exit)) (now (links .exit)) ⌝ }
 {
-    let r = last_line(run, line, floats, links, scratch, numbers);
-    print(r, floats, links, out)
+    let last = last_line(run, line, floats, links, scratch, numbers);
+    let long = print(last, floats, links, out);
+    End { run: last, long }
 }

@@ -12,6 +12,7 @@ ghost use Rattle.listing.specs.Whole.{shown, listedTo};
 use head::Head;
 use head::refusal::Answer;
 use head::refusal::Refusal;
+use reasons::Reason;
 use reports::PAGE;
 
 // What is being read.
@@ -20,8 +21,8 @@ pub enum Stage {
     First,
     // Rows.
     Rows,
-    // Nothing more: a line was malformed, refused or too long.
-    Bad,
+    // Nothing more: a line was malformed, refused or too long, for this reason.
+    Bad(Reason),
 }
 
 // A run between two chunks: the head of the tree in the lent slices, the number of the line that is being read, or of the bad
@@ -88,7 +89,8 @@ fn list_in(
     ensures { λ r. ⌜ Wrote 0 (rowlist (now (input .entry))) (now (out .entry)) (now (out .exit)) r ⌝ }
 {
     let r = feed(begin(), input, line, floats, links, scratch, numbers);
-    finish::finish(r, line, floats, links, scratch, numbers, out)
+    let end = finish::finish(r, line, floats, links, scratch, numbers, out);
+    end.long
 }
 
 // What a listing gives back: the answer, and how many bytes it has written.

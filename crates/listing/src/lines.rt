@@ -4,7 +4,7 @@ ghost use mathlib.Core.List.{[], _∷_};
 ghost use Prim.Native.Nat.{_+_, _-_, _≤_, _<_};
 ghost use lib.ListN.{length, take};
 ghost use Rattle.listing.specs.declared.Stage.the-variants as Stages;
-ghost use Rattle.listing.specs.Runs.{Room, Stands, Reading, LineRead, listed, printed, Reads, badRun};
+ghost use Rattle.listing.specs.Runs.{Room, Stands, Reading, LineRead, listed, printed, Reads, badStage, badRun};
 ghost use Rattle.listing.specs.Lines.{Pushed, Copied};
 ghost use Rattle.listing.specs.Rows.{Inserts};
 use crate::Run;
@@ -13,6 +13,7 @@ use cftree::change::create;
 use fronts::change::change;
 use fronts::work::Work;
 use head::Head;
+use reasons::Reason;
 use text::First;
 use text::RowLine;
 use text::heads::first_line;
@@ -21,11 +22,23 @@ use text::rows::row_line;
 // The longest line, newline not counted.
 const MOST: usize = 200;
 
-// The line that is being read is bad.
-fn bad(run: Run) -> Run
-    ensures { λ r. ⌜ r ≡ badRun run ⌝ }
+// A bad run stays bad for its own reason.
+fn bad_stage(stage: Stage, why: Reason) -> Stage
+    ensures { λ r. ⌜ r ≡ badStage stage why ⌝ }
 {
-    let stage = Stage::Bad;
+    match stage {
+        Stage::First => Stage::Bad(why),
+        Stage::Rows => Stage::Bad(why),
+        Stage::Bad(first) => Stage::Bad(first),
+    }
+}
+
+// The line that is being read is bad.
+fn bad(run: Run, why: Reason) -> Run
+    ensures { λ r. ⌜ r ≡ badRun why run ⌝ }
+{
+    let before = run.stage;
+    let stage = bad_stage(before, why);
     let head = run.head;
     Run {
         head,
@@ -42,7 +55,7 @@ fn push(run: Run, b: u8, line: &mut [u8]) -> Run
 {
     let long = run.long;
     if long == MOST {
-        return bad(run);
+        return bad(run, Reason::Long);
     }
     line[long] = b;
     let head = run.head;
@@ -92,7 +105,7 @@ fn read_first(run: Run, bytes: &[u8], floats: &mut [f64], links: &mut [u32]) -> 
         (now (floats .exit)) (now (links .exit)) ⌝ }
 {
     let First::Head(h) = first_line(bytes) else {
-        return bad(run);
+        return bad(run, reasons::first(bytes));
     };
     let made = create(h, floats, links);
     let head = made.head;
@@ -120,7 +133,7 @@ fn insert(
     ensures { λ r. ⌜ Inserts run (now (floats .entry)) (now (links .entry)) (now (row .entry)) r (now (floats .exit)) (now (links .exit)) ⌝ }
 {
     if run.number > Head::MOST_ROWS + 1 {
-        return bad(run);
+        return bad(run, Reason::Full);
     }
     let head = change(
         run.head,
@@ -159,7 +172,7 @@ fn read_row(
     let h = run.head;
     let dim = h.dim;
     let RowLine::Row = row_line(bytes, dim, &mut row) else {
-        return bad(run);
+        return bad(run, reasons::row(bytes));
     };
     insert(run, &row[0..dim], floats, links, scratch, numbers)
 }
@@ -183,7 +196,7 @@ pub fn end_line(
     match stage {
         Stage::First => read_first(run, &line[0..long], floats, links),
         Stage::Rows => read_row(run, &line[0..long], floats, links, scratch, numbers),
-        Stage::Bad => bad(run),
+        Stage::Bad(why) => bad(run, why),
     }
 }
 

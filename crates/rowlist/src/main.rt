@@ -1,21 +1,26 @@
 // The listing program: reads standard input of any length, and prints its listing.
+mod arguments;
+mod messages;
+
 ghost use lib.ListN.{length};
 ghost use Rattle.listing.specs.Runs.{Room, Reading};
 use libc::STDERR_FILENO;
 use libc::STDIN_FILENO;
 use libc::STDOUT_FILENO;
 use listing::Run;
+use listing::Stage;
 use listing::finish::finish;
 use reports::PAGE;
 
 // What was read of standard input.
 struct Input {
     run: Run,
-    // To its end: no read failed.
+    // To its end, or to a bad line: no read failed.
     whole: bool,
 }
 
-// Standard input, chunk after chunk. No input has 2^64 of them, but a loop has to end.
+// Standard input, chunk after chunk, until a line is bad: what follows changes nothing (`bad-chunks-listed` of listing, Chunks).
+// No input has 2^64 chunks, but a loop has to end.
 fn read(
     chunk: &mut [u8],
     line: &mut [u8],
@@ -38,13 +43,18 @@ fn read(
         }
         let n = io::count(got, chunk);
         run = listing::feed(run, &chunk[0..n], line, floats, links, scratch, numbers);
+        let stage = run.stage;
+        if let Stage::Bad(_) = stage {
+            whole = true;
+            break;
+        }
         chunks += 1;
     }
     Input { run, whole }
 }
 
-// The slices have room for M 24, dim 8, branching and leaf_cap 16.
-fn main() {
+// The listing of standard input. The slices have room for M 24, dim 8, branching and leaf_cap 16.
+fn list() {
     let mut chunk = io::large_buffer();
     let mut line = [0u8; 200];
     let mut floats = [0.0; 5950];
@@ -67,7 +77,7 @@ fn main() {
         );
         return;
     }
-    let n = finish(
+    let end = finish(
         input.run,
         &line,
         &mut floats,
@@ -76,7 +86,18 @@ fn main() {
         &mut numbers,
         &mut out,
     );
+    let n = end.long;
     if !io::write_all(STDOUT_FILENO, &out[0..n]) {
         io::write_all(STDERR_FILENO, b"rowlist: the listing can't be written\n");
+        return;
     }
+    messages::tell(end.run);
+}
+
+fn main() {
+    if os::arg_count() > 1 {
+        arguments::answer();
+        return;
+    }
+    list();
 }

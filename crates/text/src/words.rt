@@ -5,7 +5,7 @@ ghost use Rattle.text.specs.Told.{wordTold};
 use crate::Word;
 
 // Whether a and b are one text.
-fn is(a: &[u8], b: &[u8]) -> bool
+pub fn is(a: &[u8], b: &[u8]) -> bool
     ensures { λ r. ⌜ r ≡ same (now (a .entry)) (now (b .entry)) ⌝ }
 {
     if a.len() != b.len() {

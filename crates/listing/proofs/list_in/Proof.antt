@@ -29,7 +29,8 @@ returns c =
     let start = at-begin .before .before .before .before .before .before .before .before in
     let a = start .args in
     let begin = at-begin .begin in
-    wrote-is (all-listed (begin .result) (a .line .now) (a .floats .now) (a .links .now) (begin .ensures) (feed .feed .ensures .1)) (finish .finish .ensures)
+    wrote-is (all-listed (begin .result) (a .line .now) (a .floats .now) (a .links .now) (begin .ensures) (feed .feed .ensures .1))
+    (finish .finish .ensures .0)
 
 pub list-in-spec : {M : Type 1} → statement M
 list-in-spec =

@@ -29,19 +29,31 @@ feed-requires c κs =
 -- a turn's test, from its feed
 add-chunks : tie.Need-add-chunks Inv-loop μ-loop
 add-chunks c =
-    let feed = c .before .before .before .before .before .before .before .before .before .before in
-    let more = feed .before .before .before .before .before .before .before .before .before .before .before .before .before .before .before .loop-test .taken in
+    let feed = c .before .before .before .before .before .before .before .before .before .before .before in
+    let test = feed .before .before .before .before .before .before .before .before .before .before .before .before .before .before .before in
+    let more = test .loop-test .taken in
     omega arith
 
 loop-less : tie.Need-loop-less Inv-loop μ-loop
 loop-less c =
-    let feed = c .before .before .before .before .before .before .before .before .before .before in
-    let more = feed .before .before .before .before .before .before .before .before .before .before .before .before .before .before .before .loop-test .taken in
+    let feed = c .before .before .before .before .before .before .before .before .before .before .before in
+    let test = feed .before .before .before .before .before .before .before .before .before .before .before .before .before .before .before in
+    let more = test .loop-test .taken in
     omega arith
+
+-- the chunk's feed, its read and the turn's start, where a line is bad
+abbrev fed : tie.After-enum-told Inv-loop μ-loop → tie.After-feed Inv-loop μ-loop
+fed c = c .before .before .before .before .before .before .before .before .before .before .before .before
+
+abbrev got : tie.After-enum-told Inv-loop μ-loop → tie.After-read Inv-loop μ-loop
+got c = fed c .before .before .before .before .before .before .before .before .before .before .before .before .before
+
+abbrev turn : tie.After-enum-told Inv-loop μ-loop → tie.At-loop Inv-loop μ-loop
+turn c = got c .before .before .before
 
 loop-again : tie.Need-loop-again Inv-loop μ-loop
 loop-again c =
-    let feed = c .before .before .before .before .before .before .before .before .before .before in
+    let feed = c .before .before .before .before .before .before .before .before .before .before .before in
     let read = feed .before .before .before .before .before .before .before .before .before .before .before .before .before in
     let test = read .before .before in
     let more = test .loop-test .taken in
@@ -60,10 +72,14 @@ loop-again c =
 pub read-spec : {M : Type 1} → statement M
 read-spec =
     tie.close (tie.spec Inv-loop μ-loop (λ c κs. search needs) loop-holds (λ c κs. search needs) (λ c κs. search needs) (λ c. search needs)
-    (λ c. search needs) (λ c. search needs) feed-requires add-chunks loop-less loop-again (λ c. c .before .loop .inv .1)
+    (λ c. search needs) (λ c. search needs) feed-requires (λ c. search needs) add-chunks loop-less loop-again (λ c. c .before .loop .inv .1)
     (λ c. c .before .loop .inv .2) (λ c. c .before .loop .inv .3) (λ c. c .before .loop .inv .4) (λ c. c .before .loop .inv .5)
     (λ c. c .before .loop .inv .6) (λ c. c .before .loop .inv .7)
     (λ c. c .before .before .before .read .kept .1 .0 ∙ c .before .before .before .before .before .before .loop .inv .1)
     (λ c. c .before .before .before .before .before .before .loop .inv .2) (λ c. c .before .before .before .before .before .before .loop .inv .3)
     (λ c. c .before .before .before .before .before .before .loop .inv .4) (λ c. c .before .before .before .before .before .before .loop .inv .5)
-    (λ c. c .before .before .before .before .before .before .loop .inv .6) (λ c. c .before .before .before .before .before .before .loop .inv .7))
+    (λ c. c .before .before .before .before .before .before .loop .inv .6) (λ c. c .before .before .before .before .before .before .loop .inv .7)
+    (λ c. got c .read .kept .1 .0 ∙ turn c .loop .inv .1) (λ c. fed c .feed .kept .1 .1 .0 ∙ turn c .loop .inv .2)
+    (λ c. fed c .feed .kept .1 .1 .1 .0 ∙ turn c .loop .inv .3) (λ c. fed c .feed .kept .1 .1 .1 .1 .0 ∙ turn c .loop .inv .4)
+    (λ c. fed c .feed .kept .1 .1 .1 .1 .1 .0 ∙ turn c .loop .inv .5) (λ c. fed c .feed .kept .1 .1 .1 .1 .1 .1 .0 ∙ turn c .loop .inv .6)
+    (λ c. fed c .feed .ensures .0))

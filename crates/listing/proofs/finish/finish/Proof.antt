@@ -7,7 +7,8 @@ use Rattle.listing.proofs.finish.finish.Tie as tie
 returns : tie.Need-returns
 returns c =
     let last-line = c .before .before .before .before .before .before .before .before .before .before .before .before .before .before in
-    wrote-is (last-line .last-line .ensures .1) (c .before .before .print .ensures)
+    let last = last-line .last-line .ensures in
+    (wrote-is (last .1) (c .before .before .print .ensures), record { stands = last .0; lists = last .1 })
 
 pub finish-spec : {M : Type 1} → statement M
 finish-spec =

@@ -39,8 +39,8 @@ returns-2 c =
 
 returns-3 : tie.Need-returns-3
 returns-3 c =
-    let start = c .before .before .before .before .before .before .before .before in
-    let a = start .args in still-bad (a .run) (c .bad .ensures) _ (a .floats .now) (a .links .now) (c .before .enum-told3 .given .1)
+    let start = c .before .before .before .before .before .before .before .before .before in
+    let a = start .args in still-bad (a .run) _ (c .bad .ensures) _ (a .floats .now) (a .links .now) (c .before .before .stage .given .1)
 
 pub end-line-spec : {M : Type 1} → statement M
 end-line-spec =

@@ -21,7 +21,7 @@ returns c =
     let a = start .args in
     let k : most + 1 < a .run .number = omega (arith, c .before .if1 .taken) in
     record {
-      reads = (λ line y. full-read (a .run) (lent start) (start .pre .1 .0) (start .pre .0) (a .row .now) (start .pre .1 .1) k (c .bad .ensures) line y _ _);
+      reads = (λ line y. full-read (a .run) (lent start) (start .pre .1 .0) (start .pre .0) (a .row .now) (start .pre .1 .1) k _ (c .bad .ensures) line y _ _);
     }
 
 change-requires : tie.Need-change-requires

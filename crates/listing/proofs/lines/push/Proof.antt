@@ -11,7 +11,7 @@ returns : tie.Need-returns
 returns c =
     let a = c .before .before .before .args in
     subst (λ (r : Run). Pushed (a .run) (a .b) (a .line .now) r (a .line .now)) (sym (c .bad .ensures))
-    (pushed-bad (a .run) (a .b) (a .line .now) (c .before .before .before .pre .0) (c .before .if1 .taken))
+    (pushed-bad (a .run) (a .b) (a .line .now) (c .before .before .before .pre .0) _ (c .before .if1 .taken))
 
 returns-2 : tie.Need-returns-2
 returns-2 c = let a = c .before .before .before .args in pushed-byte (a .run) (a .b) (a .line .now) (c .before .before .before .pre .0) (omega arith)

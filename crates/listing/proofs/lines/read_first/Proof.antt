@@ -8,10 +8,10 @@ use Rattle.listing.proofs.lines.read_first.Tie as tie
 
 returns : tie.Need-returns
 returns c =
-    let start = c .before .before .before .before .before .before .before in
+    let start = c .before .before .before .before .before .before .before .before in
     let a = start .args in
-    no-head (a .run) (c .bad .ensures) (a .bytes .now) (a .floats .now) (a .links .now) (start .pre .2)
-    (first-none _ (sym (c .before .before .before .first-line .ensures) ∙ c .before .enum-told .given .1))
+    no-head (a .run) _ (c .bad .ensures) (a .bytes .now) (a .floats .now) (a .links .now) (start .pre .2)
+    (first-none _ (sym (c .before .before .before .before .first-line .ensures) ∙ c .before .before .enum-told .given .1))
 
 returns-2 : tie.Need-returns-2
 returns-2 c =
@@ -26,5 +26,5 @@ returns-2 c =
 
 pub read-first-spec : {M : Type 1} → statement M
 read-first-spec =
-    tie.close (tie.spec (λ c κs. search needs) (λ c. search needs) (λ c. search needs) (λ c κs. search needs) returns (λ c κs. search needs)
-    (λ c. search needs) (λ c. search needs) returns-2)
+    tie.close (tie.spec (λ c κs. search needs) (λ c. search needs) (λ c. search needs) (λ c κs. search needs) (λ c κs. search needs) returns
+    (λ c κs. search needs) (λ c. search needs) (λ c. search needs) returns-2)

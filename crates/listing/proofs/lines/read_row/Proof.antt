@@ -19,11 +19,11 @@ row-line-requires c κs =
 
 returns : tie.Need-returns
 returns c =
-    let row-line = c .before .before .before .before in
+    let row-line = c .before .before .before .before .before in
     let start = row-line .before .before .before .before .before .before .before .before in
     let a = start .args in
-    malformed-read (a .run) (a .bytes .now) (a .floats .now) (a .links .now) _ _ (row-line .row-line .ensures) (c .before .enum-told2 .given .1)
-    (c .bad .ensures)
+    malformed-read (a .run) (a .bytes .now) (a .floats .now) (a .links .now) _ _ (row-line .row-line .ensures) (c .before .before .enum-told2 .given .1)
+    _ (c .bad .ensures)
 
 part-insert-end : tie.Need-part-insert-end
 unfolding Stands settingsOf
@@ -52,5 +52,6 @@ returns-2 c =
 
 pub read-row-spec : {M : Type 1} → statement M
 read-row-spec =
-    tie.close (tie.spec (λ c. search needs) row-line-requires (λ c. search needs) (λ c. search needs) (λ c κs. search needs) returns (λ c. search needs)
-    (λ c. search needs) part-insert-end insert-requires (λ c. search needs) (λ c. search needs) (λ c. search needs) (λ c. search needs) returns-2)
+    tie.close (tie.spec (λ c. search needs) row-line-requires (λ c. search needs) (λ c. search needs) (λ c κs. search needs) (λ c κs. search needs) returns
+    (λ c. search needs) (λ c. search needs) part-insert-end insert-requires (λ c. search needs) (λ c. search needs) (λ c. search needs)
+    (λ c. search needs) returns-2)

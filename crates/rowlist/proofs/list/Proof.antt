@@ -1,9 +1,9 @@
--- `rowlist::main` meets its contract: the slices have the room that is asked for.
+-- `rowlist::list` meets its contract: the slices have the room that is asked for.
 use borrow.Author.Needs.{needs}
 use lib.ListN.{length-replicate}
 use Rattle.listing.specs.Runs.{Room}
-use Rattle.rowlist.proofs.main.Statement.{statement}
-use Rattle.rowlist.proofs.main.Tie as tie
+use Rattle.rowlist.proofs.list.Statement.{statement}
+use Rattle.rowlist.proofs.list.Tie as tie
 
 finish-requires : tie.Need-finish-requires
 finish-requires c κs =
@@ -20,9 +20,10 @@ finish-requires c κs =
       (read .ensures, search needs),
     )
 
-pub main-spec : {M : Type 1} → statement M
-main-spec =
+pub list-spec : {M : Type 1} → statement M
+list-spec =
     tie.close (tie.spec (λ c κs. search needs) (λ c. search needs) (λ c. search needs) (λ c. search needs) (λ c. search needs) (λ c. search needs)
     (λ c. search needs) (λ c κs. search needs) (λ c. search needs) (λ c κs. search needs) (λ c. search needs) (λ c. search needs) (λ c. search needs)
     (λ c. search needs) (λ c. search needs) (λ c. search needs) (λ c. search needs) finish-requires (λ c. search needs) (λ c. search needs)
-    (λ c. search needs) (λ c κs. search needs) (λ c. search needs) (λ c κs. search needs) (λ c. search needs) (λ c. search needs))
+    (λ c. search needs) (λ c κs. search needs) (λ c. search needs) (λ c κs. search needs) (λ c. search needs) (λ c κs. search needs)
+    (λ c. search needs))

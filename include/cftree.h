@@ -1,18 +1,26 @@
 /* A tree of at most M summaries of rows: how many rows each stands for, their mean and their squared deviation.
  *
- * Link with libexport.a (`rt staticlib export` writes it to target/staticlib; x86-64). It calls memset and memcpy, takes no
- * memory of its own and keeps no state: all of a tree is in a head and two buffers that the caller lends.
+ * Link with libcftree.a (`bin/library` proves it and writes it to target/lib). It calls memset and memcpy, takes no memory
+ * of its own and keeps no state: all of a tree is in a head and two buffers that the caller lends.
+ *
+ * *** KEEP THE HEAD THAT A CHANGING CALL GIVES BACK, and lend that one next. *** An older head over the same buffers can
+ * pass the tree check, and the tree then goes on with an older threshold: at M 1 and leaf_cap 1 the rows 0, 4, 5 leave it
+ * just above 16, and just above 9 if the head that comes back with row 4 is dropped, with no refusal.
  *
  * Nothing is required of what is in the head and in the buffers: every call does its work, or gives one of seven refusals
  * and writes nothing. What is required, and cannot be checked:
- *   - a pointer is not null and is aligned, and so many words are behind it as its length says (for length 0 any such
- *     pointer), all of them set to some number; zeros will do;
+ *   - a pointer is aligned, and so many words are behind it as its length says, all of them set to some number; zeros will
+ *     do. With length 0 it may be NULL: nothing is read or written through it;
  *   - no two buffers of one call overlap;
  *   - the floating-point environment is the default one: it rounds to nearest and does not flush subnormals to zero. (In a
  *     program that is linked with -ffast-math the start-up code may flush them, and the answers are then others.)
  *   - no two calls on one tree run at the same time, unless both only read it.
  *
  * A NaN that a call works out may have any sign and payload, in the floats and in a spread: ask isnan, not the bits.
+ *
+ * The machine is x86-64, Linux's calling convention; the archive runs nowhere else. Below its entry no call takes more than
+ * 5,032 bytes of stack there (docs/SPEED.md has each call's). A 32-bit controller would need a compiler of the kit for it,
+ * 64-bit counts that are narrowed to its size_t, and that depth measured anew.
  */
 #ifndef CFTREE_H
 #define CFTREE_H
@@ -22,6 +30,20 @@
 
 #ifdef __cplusplus
 extern "C" {
+#endif
+
+/* Major * 10000 + minor * 100 + patch. An archive that goes with this header answers the same, so ask it at start-up:
+ *   if (cftree_version() != CFTREE_VERSION) ..the header and the archive are not of one version.. */
+#define CFTREE_VERSION 100
+uint32_t cftree_version(void);
+
+/* A compiler that can warn does so where the answer of a call is dropped. */
+#if (defined(__cplusplus) && __cplusplus >= 201703L) || (defined(__STDC_VERSION__) && __STDC_VERSION__ >= 202311L)
+#define CFTREE_KEEP [[nodiscard]]
+#elif defined(__GNUC__)
+#define CFTREE_KEEP __attribute__((warn_unused_result))
+#else
+#define CFTREE_KEEP
 #endif
 
 /* Limits of the settings. */
@@ -82,6 +104,21 @@ typedef struct {
     uint32_t number; /* 0 accepted, or 1 to 7 */
 } cftree_answer;
 
+/* The name of an answer's number, for messages. */
+static inline const char *cftree_refusal_name(uint32_t number) {
+    switch (number) {
+    case CFTREE_ACCEPTED: return "ACCEPTED";
+    case CFTREE_SETTINGS: return "SETTINGS";
+    case CFTREE_ROOM: return "ROOM";
+    case CFTREE_TREE: return "TREE";
+    case CFTREE_SHAPE: return "SHAPE";
+    case CFTREE_EMPTY: return "EMPTY";
+    case CFTREE_FULL: return "FULL";
+    case CFTREE_OUTPUT: return "OUTPUT";
+    default: return "no answer of this version";
+    }
+}
+
 /* What a changing call gives back: the head to keep, and the answer. */
 typedef struct {
     cftree_head head;
@@ -99,50 +136,67 @@ typedef struct {
     uint64_t deviations;
 } cftree_listing;
 
-/* Words needed of each buffer; 0 if the head is outside its limits. With N = (M+1)(M+2)/2:
- *   floats          (N + M + 1)(1 + 2 dim)
- *   links           N (3 + max(branching, leaf_cap))
- *   scratch floats  (M + 1)(1 + 2 dim)
- *   scratch links   3 (M + 1)
- * A longer buffer serves too, and what lies past the needed words is never touched. */
+/* Structs cross to the archive by value: a compiler that lays them out otherwise stops here. */
+typedef char cftree_head_has_96_bytes[sizeof(cftree_head) == 96 ? 1 : -1];
+typedef char cftree_answer_has_24_bytes[sizeof(cftree_answer) == 24 ? 1 : -1];
+typedef char cftree_outcome_has_120_bytes[sizeof(cftree_outcome) == 120 ? 1 : -1];
+typedef char cftree_listing_has_64_bytes[sizeof(cftree_listing) == 64 ? 1 : -1];
+
+/* Words needed of each buffer, for static arrays, of constant settings within their limits. */
+#define CFTREE_NODES(m) (((m) + 1) * ((m) + 2) / 2)
+#define CFTREE_FLOATS(dim, m) ((CFTREE_NODES(m) + (m) + 1) * (1 + 2 * (dim)))
+#define CFTREE_LINKS(branching, leaf_cap, m) (CFTREE_NODES(m) * (3 + ((branching) > (leaf_cap) ? (branching) : (leaf_cap))))
+#define CFTREE_SCRATCH_FLOATS(dim, m) (((m) + 1) * (1 + 2 * (dim)))
+#define CFTREE_SCRATCH_LINKS(m) (3 * ((m) + 1))
+
+/* The same of any head; 0 if it is outside its limits. A longer buffer serves too, and what lies past the needed words is
+ * never touched. */
 uint64_t cftree_floats_needed(cftree_head head);
 uint64_t cftree_links_needed(cftree_head head);
 uint64_t cftree_scratch_floats_needed(cftree_head head);
 uint64_t cftree_scratch_links_needed(cftree_head head);
 
 /* An empty tree with the head's settings and threshold; the counters in the head are not read. Refusals 1 and 2. */
+CFTREE_KEEP
 cftree_outcome cftree_create(cftree_head head, double *floats, size_t floats_len, uint32_t *links, size_t links_len);
 
 /* One row into the tree. Refusals 1, 2, 3, 4, 6. Any numbers are taken, NaN and infinity too.
  * After this call and the next two scratch is zero, and so are the needed words that hold nothing of the tree. */
+CFTREE_KEEP
 cftree_outcome cftree_insert_row(cftree_head head, double *floats, size_t floats_len, uint32_t *links, size_t links_len,
                                  double *scratch_floats, size_t scratch_floats_len, uint32_t *scratch_links,
                                  size_t scratch_links_len, const double *row, size_t row_len);
 
 /* Rows one after the other: all of them or none. Refusals 1, 2, 3, 4, 6. The tree is checked once. */
+CFTREE_KEEP
 cftree_outcome cftree_insert_batch(cftree_head head, double *floats, size_t floats_len, uint32_t *links, size_t links_len,
                                    double *scratch_floats, size_t scratch_floats_len, uint32_t *scratch_links,
                                    size_t scratch_links_len, const double *rows, size_t rows_len);
 
 /* The entries made anew from the rows that are routed to them; unused ones are dropped. Refusals 1, 2, 3, 4, 6. */
+CFTREE_KEEP
 cftree_outcome cftree_refit(cftree_head head, double *floats, size_t floats_len, uint32_t *links, size_t links_len,
                             double *scratch_floats, size_t scratch_floats_len, uint32_t *scratch_links,
                             size_t scratch_links_len, const double *rows, size_t rows_len);
 
 /* The tree check. Refusals 1, 2, 3. */
+CFTREE_KEEP
 cftree_answer cftree_validate(cftree_head head, const double *floats, size_t floats_len, const uint32_t *links,
                               size_t links_len);
 
 /* Where the entries stand. Refusals 1, 2, 3. */
+CFTREE_KEEP
 cftree_listing cftree_entries(cftree_head head, const double *floats, size_t floats_len, const uint32_t *links,
                               size_t links_len);
 
 /* One entry number a row to the front of the output. Refusals 1, 2, 3, 4, 5, 7. */
+CFTREE_KEEP
 cftree_answer cftree_route(cftree_head head, const double *floats, size_t floats_len, const uint32_t *links,
                            size_t links_len, const double *rows, size_t rows_len, uint32_t *out, size_t out_len);
 
 /* Squared deviation over weight (Spherical: over dim too), dim numbers an entry, to the front of the output.
  * Refusals 1, 2, 3, 7. */
+CFTREE_KEEP
 cftree_answer cftree_spread(cftree_head head, const double *floats, size_t floats_len, const uint32_t *links,
                             size_t links_len, double *out, size_t out_len);
 

@@ -1,5 +1,5 @@
 /* Reads rows from standard input into a station's tree, lists its entries and prints their spread.
- *   cc -Iinclude include/example.c target/staticlib/libexport.a -o target/example
+ *   bin/library && cc -Iinclude include/example.c -Ltarget/lib -lcftree -o target/example
  *   samples/day --plain | target/example
  * A row is a line of numbers parted by blanks or tabs. There is no heap: the tree and its scratch are four arrays.
  */
@@ -9,16 +9,14 @@
 #include <stdlib.h>
 #include <string.h>
 
-enum { DIM = 4, BRANCHING = 8, LEAF_CAP = 8, M = 24, N = (M + 1) * (M + 2) / 2, WIDTH = 1 + 2 * DIM, FIELDS = 64, LINE = 1024 };
+enum { DIM = 4, BRANCHING = 8, LEAF_CAP = 8, M = 24, FIELDS = 64, LINE = 1024 };
 
-static double floats[(N + M + 1) * WIDTH], scratch[(M + 1) * WIDTH], spread[M * DIM];
-static uint32_t links[N * (3 + (BRANCHING > LEAF_CAP ? BRANCHING : LEAF_CAP))], numbers[3 * (M + 1)];
+static double floats[CFTREE_FLOATS(DIM, M)], scratch_floats[CFTREE_SCRATCH_FLOATS(DIM, M)], spread[M * DIM];
+static uint32_t links[CFTREE_LINKS(BRANCHING, LEAF_CAP, M)], scratch_links[CFTREE_SCRATCH_LINKS(M)];
 
 #define COUNT(a) (sizeof(a) / sizeof((a)[0]))
 #define TREE floats, COUNT(floats), links, COUNT(links)
-#define SCRATCH scratch, COUNT(scratch), numbers, COUNT(numbers)
-
-static const char *const names[] = {"accepted", "SETTINGS", "ROOM", "TREE", "SHAPE", "EMPTY", "FULL", "OUTPUT"};
+#define SCRATCH scratch_floats, COUNT(scratch_floats), scratch_links, COUNT(scratch_links)
 
 /* The numbers of a line, FIELDS at most; -1 where a word is none or there are more. */
 static int row_of(char *line, double *row) {
@@ -33,7 +31,8 @@ static int row_of(char *line, double *row) {
 }
 
 static int refused(unsigned long line, cftree_answer a) {
-    fprintf(stderr, "line %lu: refused, %s (%" PRIu64 ", %" PRIu64 ")\n", line, names[a.number], a.first, a.second);
+    const char *name = cftree_refusal_name(a.number);
+    fprintf(stderr, "line %lu: refused, %s (%" PRIu64 ", %" PRIu64 ")\n", line, name, a.first, a.second);
     return 1;
 }
 
@@ -64,6 +63,10 @@ int main(void) {
                         .feature = CFTREE_DIAGONAL, .dist = CFTREE_CENTROID_EUCLIDEAN, .abs = CFTREE_CENTROID_EUCLIDEAN};
     char line[LINE];
     double row[FIELDS];
+    if (cftree_version() != CFTREE_VERSION) {
+        fprintf(stderr, "the header is of version %d, the archive of %" PRIu32 "\n", CFTREE_VERSION, cftree_version());
+        return 1;
+    }
     cftree_outcome tree = cftree_create(head, TREE);
     if (tree.answer.number != CFTREE_ACCEPTED) return refused(0, tree.answer);
     for (unsigned long at = 1; fgets(line, sizeof line, stdin); at++) {

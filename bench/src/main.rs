@@ -98,15 +98,10 @@ where
 {
     let flat = Rows::new(1).flat(DIM, STREAM);
     let other = Rows::new(2).flat(DIM, OTHER);
-    let ours =
-        |m: usize| move || Box::new(Ours::new(Settings { max_leaves: m, ..s })) as Box<dyn Side>;
+    let ours = |m: usize| move || Box::new(Ours::new(s.with_max_leaves(m))) as Box<dyn Side>;
     let theirs = move |m: usize| {
         move || {
-            Box::new(Theirs::<C, D, A>::new(
-                Settings { max_leaves: m, ..s },
-                dist(),
-                abs(),
-            )) as Box<dyn Side>
+            Box::new(Theirs::<C, D, A>::new(s.with_max_leaves(m), dist(), abs())) as Box<dyn Side>
         }
     };
     let full = |tree: &mut dyn Side| batches(tree, &flat);
@@ -158,7 +153,7 @@ where
 fn idle(s: Settings) {
     let flat = Rows::new(1).flat(DIM, STREAM);
     for m in [24, 256] {
-        let mut tree = Ours::new(Settings { max_leaves: m, ..s });
+        let mut tree = Ours::new(s.with_max_leaves(m));
         batches(&mut tree, &flat);
         let mut times = Times::default();
         for _ in 0..RUNS {
@@ -175,16 +170,10 @@ fn idle(s: Settings) {
 }
 
 fn settings(feature: Feature, dist: Distance, abs: Distance) -> Settings {
-    Settings {
-        dim: DIM,
-        branching: 8,
-        leaf_cap: 8,
-        max_leaves: 256,
-        feature,
-        dist,
-        abs,
-        threshold: 0.0,
-    }
+    Settings::new(DIM, 256)
+        .with_feature(feature)
+        .with_dist(dist)
+        .with_abs(abs)
 }
 
 /// The library's insert alone, for a profiler: single rows at M 24, batches above.
@@ -196,7 +185,7 @@ fn insert(m: usize, runs: usize) {
     );
     let flat = Rows::new(1).flat(DIM, STREAM);
     for _ in 0..runs {
-        let mut tree = Ours::new(Settings { max_leaves: m, ..s });
+        let mut tree = Ours::new(s.with_max_leaves(m));
         if m <= 24 {
             flat.chunks_exact(DIM).for_each(|row| tree.insert(row));
         } else {

@@ -46,7 +46,7 @@ impl Side for Ours {
 
     fn print(&self) -> Vec<u64> {
         let mut out = vec![self.0.threshold().to_bits(), self.0.rebuilds()];
-        for e in self.0.entries().expect("a tree that passes") {
+        for e in &self.0 {
             out.push(e.weight.to_bits());
             out.extend(e.means.iter().map(|x| x.to_bits()));
         }

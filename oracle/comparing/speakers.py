@@ -26,7 +26,7 @@ class Speaker:
             self.command = [RUST]
         elif name == "library":
             if not os.access(LIBRARY, os.X_OK):
-                raise SpeakerError("target/oracle/library is missing; run `rt staticlib export` and oracle/build")
+                raise SpeakerError("target/oracle/library is missing; run bin/library and oracle/build")
             self.command = [LIBRARY]
         elif name == "reading" or name.startswith("reading:"):
             self.command = [os.path.join(HERE, "reading")]

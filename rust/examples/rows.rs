@@ -4,21 +4,12 @@
 //!
 //! A row is a line of numbers parted by blanks or tabs. It prints what include/example.c prints.
 
-use cftree::{Distance, Feature, Refusal, Settings, Tree};
+use cftree::{Refusal, Settings, Tree};
 use std::error::Error;
 use std::io::{self, BufRead};
 use std::process::ExitCode;
 
-const STATION: Settings = Settings {
-    dim: 4,
-    branching: 8,
-    leaf_cap: 8,
-    max_leaves: 24,
-    feature: Feature::Diagonal,
-    dist: Distance::CentroidEuclidean,
-    abs: Distance::CentroidEuclidean,
-    threshold: 0.0,
-};
+const STATION: Settings = Settings::new(4, 24);
 
 /// The tree of all rows, or the first line that is no row and why.
 fn read(input: impl BufRead) -> Result<Tree, Box<dyn Error>> {
@@ -40,13 +31,9 @@ fn spaced(numbers: &[f64]) -> String {
 /// Each entry: its number, how many rows it stands for, their mean, and the spread of each channel.
 fn print(tree: &Tree) -> Result<(), Refusal> {
     let spread = tree.spread()?;
-    let entries = tree.entries()?;
-    println!(
-        "{} entries, threshold {:.4}",
-        entries.len(),
-        tree.threshold()
-    );
-    for (i, (entry, spread)) in entries.zip(spread.chunks(STATION.dim)).enumerate() {
+    let (entries, threshold) = (tree.num_leaves(), tree.threshold());
+    println!("{entries} entries, threshold {threshold:.4}");
+    for (i, (entry, spread)) in tree.into_iter().zip(spread.chunks(tree.dim())).enumerate() {
         let (mean, spread) = (spaced(entry.means), spaced(spread));
         println!("{i}: {:.0} rows, mean{mean}, spread{spread}", entry.weight);
     }

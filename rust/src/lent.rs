@@ -3,110 +3,73 @@
 //! Nothing is required of what is lent: any head, any numbers in the slices, slices of any length. A call does its work or
 //! is refused, and a refused call writes nothing: the functions that work out a refusal have the slices to read only. What
 //! a C caller has to see to, memory that is there and is set, and buffers that do not overlap, slices see to by their type.
+//!
+//! The head that a changing call gives back is the one to lend next: an older one over the same slices can pass the tree
+//! check, and the tree then goes on with an older threshold.
+//!
+//! ```
+//! use cftree::lent::{self, Head, Lent};
+//! use cftree::Settings;
+//!
+//! const STATION: Settings = Settings::new(4, 24);
+//! let (mut floats, mut links) = ([0.0; STATION.floats_len()], [0; STATION.links_len()]);
+//! let mut scratch_floats = [0.0; STATION.scratch_floats_len()];
+//! let mut scratch_links = [0; STATION.scratch_links_len()];
+//!
+//! let mut head = lent::create(Head::from(STATION), &mut floats, &mut links).into_result()?;
+//! for row in [[1009.4, 11.9, 93.0, 0.35], [1009.3, 11.9, 93.2, 0.31]] {
+//!     let lent = Lent {
+//!         floats: &mut floats,
+//!         links: &mut links,
+//!         scratch_floats: &mut scratch_floats,
+//!         scratch_links: &mut scratch_links,
+//!     };
+//!     head = lent::insert_row(head, lent, &row).into_result()?;
+//! }
+//! assert_eq!(lent::entries(head, &floats, &links)?.len(), 2);
+//! assert_eq!(lent::summary(head, &floats, &links)?.weight, 2.0);
+//! # Ok::<(), cftree::Refusal>(())
+//! ```
 
+use crate::entries::{Entries, Entry};
 use crate::raw;
 use crate::refusal::Refusal;
-use crate::settings::Settings;
 
-/// The settings and counters of a tree, all as plain numbers.
-#[repr(C)]
-#[derive(Clone, Copy, Debug, PartialEq)]
-pub struct Head {
-    /// Numbers in a row, 1 to 8.
-    pub dim: u64,
-    /// The most children of a node, 2 to 16.
-    pub branching: u64,
-    /// The most entries of a leaf, 1 to 16.
-    pub leaf_cap: u64,
-    /// M, the most entries of the tree, 1 to 256.
-    pub max_leaves: u64,
-    /// Nodes in the tree.
-    pub nodes: u64,
-    /// Entries in the tree.
-    pub entries: u64,
-    /// The number of the root node.
-    pub root: u64,
-    /// Rebuilds so far; stops at its top value.
-    pub rebuilds: u64,
-    /// Entries merged away since the tree was last built anew.
-    pub merged: u64,
-    /// The absorption threshold, finite and not below 0.
-    pub threshold: f64,
-    /// 0 Spherical, 1 Diagonal.
-    pub feature: u32,
-    /// The distance that rows and splits go by, 0 to 5 in the order of [`Distance`](crate::Distance).
-    pub dist: u32,
-    /// The distance that is held against the threshold, 0 to 5.
-    pub abs: u32,
-}
-
-impl From<Settings> for Head {
-    /// The head of an empty tree.
-    fn from(s: Settings) -> Head {
-        Head {
-            dim: s.dim as u64,
-            branching: s.branching as u64,
-            leaf_cap: s.leaf_cap as u64,
-            max_leaves: s.max_leaves as u64,
-            nodes: 1,
-            entries: 0,
-            root: 0,
-            rebuilds: 0,
-            merged: 0,
-            threshold: s.threshold,
-            feature: s.feature as u32,
-            dist: s.dist as u32,
-            abs: s.abs as u32,
-        }
-    }
-}
-
-impl Head {
-    /// How many floats hold the tree; 0 if the head is outside its limits.
-    pub fn floats_needed(self) -> usize {
-        raw::floats_needed(self) as usize
-    }
-
-    /// How many links hold the tree; 0 if the head is outside its limits.
-    pub fn links_needed(self) -> usize {
-        raw::links_needed(self) as usize
-    }
-
-    /// How many floats of scratch a changing call needs; 0 if the head is outside its limits.
-    pub fn scratch_floats_needed(self) -> usize {
-        raw::scratch_floats_needed(self) as usize
-    }
-
-    /// How many links of scratch a changing call needs; 0 if the head is outside its limits.
-    pub fn scratch_links_needed(self) -> usize {
-        raw::scratch_links_needed(self) as usize
-    }
-}
+pub use crate::entries::Places;
+pub use crate::head::Head;
 
 /// What a changing call gives back: the head to keep, and whether the call was accepted.
 #[derive(Clone, Copy, Debug, PartialEq)]
+#[must_use = "the head to lend next is in it, and whether the call was refused"]
 pub struct Outcome {
+    /// The head to lend next; the one that was lent, if the call was refused.
     pub head: Head,
+    /// Whether the call was accepted.
     pub answer: Result<(), Refusal>,
+}
+
+impl Outcome {
+    /// The head to lend next, or the refusal, with which the head stays the one that was lent.
+    ///
+    /// # Errors
+    ///
+    /// The refusal that the call gave.
+    pub fn into_result(self) -> Result<Head, Refusal> {
+        self.answer.map(|()| self.head)
+    }
 }
 
 /// What is lent to a changing call: the floats and links that hold the tree, and scratch of both kinds.
 #[derive(Debug)]
 pub struct Lent<'a> {
+    /// Summaries, first the nodes' and then the entries'.
     pub floats: &'a mut [f64],
+    /// Parents and lists of the nodes.
     pub links: &'a mut [u32],
+    /// Scratch, zero after an accepted call.
     pub scratch_floats: &'a mut [f64],
+    /// Scratch, zero after an accepted call.
     pub scratch_links: &'a mut [u32],
-}
-
-/// Where the entries stand: entry i's weight is float `first + i * width`; `means` means follow, then `deviations` deviations.
-#[derive(Clone, Copy, Debug, PartialEq, Eq)]
-pub struct Places {
-    pub entries: u64,
-    pub first: u64,
-    pub width: u64,
-    pub means: u64,
-    pub deviations: u64,
 }
 
 fn answer(a: raw::Answer) -> Result<(), Refusal> {
@@ -120,42 +83,60 @@ fn outcome(o: raw::Outcome) -> Outcome {
     }
 }
 
-fn handed(lent: Lent) -> raw::Lent {
-    raw::Lent {
-        floats: lent.floats,
-        links: lent.links,
-        scratch: lent.scratch_floats,
-        numbers: lent.scratch_links,
-    }
-}
-
-/// Creates an empty tree with the head's settings and threshold.
+/// Creates an empty tree with the head's settings and threshold; its counters are not read.
+///
+/// # Errors
+///
+/// In the outcome: 1 [`Settings`](Refusal::Settings), 2 [`Room`](Refusal::Room).
 pub fn create(head: Head, floats: &mut [f64], links: &mut [u32]) -> Outcome {
     outcome(raw::create(head, floats, links))
 }
 
-/// One row into the tree.
+/// One row into the tree. Any numbers are taken, NaN and infinity too.
+///
+/// # Errors
+///
+/// In the outcome: 1 [`Settings`](Refusal::Settings), 2 [`Room`](Refusal::Room), 3 [`Tree`](Refusal::Tree),
+/// 4 [`RowShape`](Refusal::RowShape), 6 [`Full`](Refusal::Full).
 pub fn insert_row(head: Head, lent: Lent, row: &[f64]) -> Outcome {
-    outcome(raw::insert_row(head, handed(lent), row))
+    let Outcome { head, answer } = outcome(raw::insert_row(head, lent, row));
+    Outcome {
+        head,
+        answer: answer.map_err(Refusal::of_row),
+    }
 }
 
-/// A batch of rows into the tree, one after the other: all of them or none.
+/// A batch of rows into the tree, one after the other: all of them or none. The tree is checked once.
+///
+/// # Errors
+///
+/// In the outcome: 1 [`Settings`](Refusal::Settings), 2 [`Room`](Refusal::Room), 3 [`Tree`](Refusal::Tree),
+/// 4 [`BatchShape`](Refusal::BatchShape), 6 [`Full`](Refusal::Full).
 pub fn insert_batch(head: Head, lent: Lent, rows: &[f64]) -> Outcome {
-    outcome(raw::insert_batch(head, handed(lent), rows))
+    outcome(raw::insert_batch(head, lent, rows))
 }
 
-/// Makes the entries anew from the rows that are routed to them.
+/// Makes the entries anew from the rows that are routed to them; unused ones are dropped.
+///
+/// # Errors
+///
+/// In the outcome: 1 [`Settings`](Refusal::Settings), 2 [`Room`](Refusal::Room), 3 [`Tree`](Refusal::Tree),
+/// 4 [`BatchShape`](Refusal::BatchShape), 6 [`Full`](Refusal::Full).
 pub fn refit(head: Head, lent: Lent, rows: &[f64]) -> Outcome {
-    outcome(raw::refit(head, handed(lent), rows))
+    outcome(raw::refit(head, lent, rows))
 }
 
 /// The tree check.
+///
+/// # Errors
+///
+/// 1 [`Settings`](Refusal::Settings), 2 [`Room`](Refusal::Room), 3 [`Tree`](Refusal::Tree).
 pub fn validate(head: Head, floats: &[f64], links: &[u32]) -> Result<(), Refusal> {
     answer(raw::validate(head, floats, links))
 }
 
-/// Where the entries stand in the floats.
-pub fn entries(head: Head, floats: &[f64], links: &[u32]) -> Result<Places, Refusal> {
+/// Where the entries stand, once the library has answered that the tree is whole.
+pub(crate) fn places(head: Head, floats: &[f64], links: &[u32]) -> Result<Places, Refusal> {
     let listing = raw::entries(head, floats, links);
     answer(listing.answer).map(|()| Places {
         entries: listing.entries,
@@ -166,7 +147,38 @@ pub fn entries(head: Head, floats: &[f64], links: &[u32]) -> Result<Places, Refu
     })
 }
 
+/// The entries in order, after the tree check.
+///
+/// # Errors
+///
+/// 1 [`Settings`](Refusal::Settings), 2 [`Room`](Refusal::Room), 3 [`Tree`](Refusal::Tree).
+pub fn entries<'a>(head: Head, floats: &'a [f64], links: &[u32]) -> Result<Entries<'a>, Refusal> {
+    places(head, floats, links).map(|places| Entries::new(floats, places))
+}
+
+/// The summary of all rows in the tree, which is the root's, after the tree check.
+///
+/// Its weight is how many rows there are. Mean and deviation were carried along row by row, so their rounding is another
+/// than that of the entries added up.
+///
+/// # Errors
+///
+/// 1 [`Settings`](Refusal::Settings), 2 [`Room`](Refusal::Room), 3 [`Tree`](Refusal::Tree).
+pub fn summary<'a>(head: Head, floats: &'a [f64], links: &[u32]) -> Result<Entry<'a>, Refusal> {
+    places(head, floats, links).map(|places| root(head, floats, places))
+}
+
+/// The root's summary in floats of a whole tree: nodes stand first, and the root is one of them.
+pub(crate) fn root(head: Head, floats: &[f64], places: Places) -> Entry<'_> {
+    places.summary(floats, head.root as usize * places.width as usize)
+}
+
 /// The entry number of each row, to the front of the output.
+///
+/// # Errors
+///
+/// 1 [`Settings`](Refusal::Settings), 2 [`Room`](Refusal::Room), 3 [`Tree`](Refusal::Tree),
+/// 4 [`BatchShape`](Refusal::BatchShape), 5 [`Empty`](Refusal::Empty), 7 [`Output`](Refusal::Output).
 pub fn route(
     head: Head,
     floats: &[f64],
@@ -177,7 +189,31 @@ pub fn route(
     answer(raw::route(head, floats, links, rows, out))
 }
 
-/// The spread of each entry, dim numbers an entry, to the front of the output.
+/// The entry number of one row.
+///
+/// # Errors
+///
+/// 1 [`Settings`](Refusal::Settings), 2 [`Room`](Refusal::Room), 3 [`Tree`](Refusal::Tree),
+/// 4 [`RowShape`](Refusal::RowShape), 5 [`Empty`](Refusal::Empty).
+pub fn route_row(head: Head, floats: &[f64], links: &[u32], row: &[f64]) -> Result<u32, Refusal> {
+    let (dim, got) = (head.dim, row.len() as u64);
+    if got != dim {
+        // the library would take no row, or two, for a batch
+        validate(head, floats, links)?;
+        return Err(Refusal::RowShape { dim, got });
+    }
+    let mut out = [0];
+    route(head, floats, links, row, &mut out)?;
+    Ok(out[0])
+}
+
+/// The spread of each entry, dim numbers an entry, to the front of the output: squared deviation over weight, and over dim
+/// too if Spherical.
+///
+/// # Errors
+///
+/// 1 [`Settings`](Refusal::Settings), 2 [`Room`](Refusal::Room), 3 [`Tree`](Refusal::Tree),
+/// 7 [`Output`](Refusal::Output).
 pub fn spread(head: Head, floats: &[f64], links: &[u32], out: &mut [f64]) -> Result<(), Refusal> {
     answer(raw::spread(head, floats, links, out))
 }

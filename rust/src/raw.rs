@@ -1,7 +1,8 @@
 //! The C layer as `include/cftree.h` has it; `.ci/shapes` holds both against the library's own text. Every `unsafe` of the
 //! crate is here: a slice is passed as its pointer and its length, and the library reads and writes nothing else.
 
-use crate::lent::Head;
+use crate::head::Head;
+use crate::lent::Lent;
 
 #[repr(C)]
 pub struct Answer {
@@ -26,7 +27,14 @@ pub struct Listing {
     pub deviations: u64,
 }
 
+// Structs cross by value, so both sides have to lay them out alike.
+const _: () = assert!(core::mem::size_of::<Head>() == 96);
+const _: () = assert!(core::mem::size_of::<Answer>() == 24);
+const _: () = assert!(core::mem::size_of::<Outcome>() == 120);
+const _: () = assert!(core::mem::size_of::<Listing>() == 64);
+
 extern "C" {
+    fn cftree_version() -> u32;
     fn cftree_floats_needed(head: Head) -> u64;
     fn cftree_links_needed(head: Head) -> u64;
     fn cftree_scratch_floats_needed(head: Head) -> u64;
@@ -90,7 +98,7 @@ type Change = unsafe extern "C" fn(
 ) -> Outcome;
 
 macro_rules! changing {
-    ($($name:ident)*) => {
+    ($($name:ident($rows:ident, $rows_len:ident))*) => {
         extern "C" {
             $(fn $name(
                 head: Head,
@@ -98,18 +106,27 @@ macro_rules! changing {
                 floats_len: usize,
                 links: *mut u32,
                 links_len: usize,
-                scratch: *mut f64,
-                scratch_len: usize,
-                numbers: *mut u32,
-                numbers_len: usize,
-                rows: *const f64,
-                rows_len: usize,
+                scratch_floats: *mut f64,
+                scratch_floats_len: usize,
+                scratch_links: *mut u32,
+                scratch_links_len: usize,
+                $rows: *const f64,
+                $rows_len: usize,
             ) -> Outcome;)*
         }
     };
 }
 
-changing! { cftree_insert_row cftree_insert_batch cftree_refit }
+changing! {
+    cftree_insert_row(row, row_len)
+    cftree_insert_batch(rows, rows_len)
+    cftree_refit(rows, rows_len)
+}
+
+pub fn version() -> u32 {
+    // SAFETY: the call takes nothing.
+    unsafe { cftree_version() }
+}
 
 pub fn floats_needed(head: Head) -> u64 {
     // SAFETY: the call takes numbers only.
@@ -144,14 +161,6 @@ pub fn create(head: Head, floats: &mut [f64], links: &mut [u32]) -> Outcome {
     }
 }
 
-/// What is lent to a changing call.
-pub struct Lent<'a> {
-    pub floats: &'a mut [f64],
-    pub links: &'a mut [u32],
-    pub scratch: &'a mut [f64],
-    pub numbers: &'a mut [u32],
-}
-
 fn change(call: Change, head: Head, lent: Lent, rows: &[f64]) -> Outcome {
     // SAFETY: each pointer goes with its slice's length, and the slices that are written are exclusive.
     unsafe {
@@ -161,10 +170,10 @@ fn change(call: Change, head: Head, lent: Lent, rows: &[f64]) -> Outcome {
             lent.floats.len(),
             lent.links.as_mut_ptr(),
             lent.links.len(),
-            lent.scratch.as_mut_ptr(),
-            lent.scratch.len(),
-            lent.numbers.as_mut_ptr(),
-            lent.numbers.len(),
+            lent.scratch_floats.as_mut_ptr(),
+            lent.scratch_floats.len(),
+            lent.scratch_links.as_mut_ptr(),
+            lent.scratch_links.len(),
             rows.as_ptr(),
             rows.len(),
         )

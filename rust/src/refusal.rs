@@ -1,18 +1,34 @@
 //! The seven refusals: what each means, its number and its values.
 
-use std::fmt;
+use core::fmt;
 
 /// Why a call was refused. A refused call leaves the head and every buffer as they were, bit for bit.
 #[derive(Clone, Copy, Debug, PartialEq, Eq, Hash)]
+#[non_exhaustive]
 pub enum Refusal {
     /// 1: a size, a choice or the threshold in the head is outside its limits.
     Settings,
     /// 2: a lent buffer is shorter than needed.
     Room,
-    /// 3: the tree check fails; the lowest condition that fails, 1 to 8.
-    Tree { condition: u64 },
-    /// 4: one row whose length is not dim (`got` is its length), or a batch whose length is no multiple of dim (`got` is what is left over).
-    Shape { dim: u64, got: u64 },
+    /// 3: the tree check fails.
+    Tree {
+        /// The lowest condition that fails, 1 to 8.
+        condition: u64,
+    },
+    /// 4, of a call that takes one row: its length is not dim.
+    RowShape {
+        /// Numbers in a row of this tree.
+        dim: u64,
+        /// Numbers in the row that was given.
+        got: u64,
+    },
+    /// 4, of a call that takes a batch: its length is no multiple of dim.
+    BatchShape {
+        /// Numbers in a row of this tree.
+        dim: u64,
+        /// Numbers after the last whole row.
+        left_over: u64,
+    },
     /// 5: routing of at least one row in a tree with no entries.
     Empty,
     /// 6: the tree would count more than 2^53 rows.
@@ -22,7 +38,7 @@ pub enum Refusal {
 }
 
 impl Refusal {
-    /// The refusal of an answer's number and values; none for 0, which is accepted.
+    /// The refusal of an answer's number and values, with SHAPE as a batch's; none for 0, which is accepted.
     ///
     /// The library answers 0 to 7 and nothing else.
     pub(crate) fn of(number: u32, first: u64, second: u64) -> Result<(), Refusal> {
@@ -31,9 +47,9 @@ impl Refusal {
             1 => Refusal::Settings,
             2 => Refusal::Room,
             3 => Refusal::Tree { condition: first },
-            4 => Refusal::Shape {
+            4 => Refusal::BatchShape {
                 dim: first,
-                got: second,
+                left_over: second,
             },
             5 => Refusal::Empty,
             6 => Refusal::Full,
@@ -42,39 +58,55 @@ impl Refusal {
         })
     }
 
+    /// The same of a call that takes one row: SHAPE's second value is then the row's length.
+    pub(crate) fn of_row(self) -> Refusal {
+        match self {
+            Refusal::BatchShape { dim, left_over } => Refusal::RowShape {
+                dim,
+                got: left_over,
+            },
+            other => other,
+        }
+    }
+
     /// The refusal's number, 1 to 7.
+    #[must_use]
     pub fn number(self) -> u32 {
         match self {
             Refusal::Settings => 1,
             Refusal::Room => 2,
             Refusal::Tree { .. } => 3,
-            Refusal::Shape { .. } => 4,
+            Refusal::RowShape { .. } | Refusal::BatchShape { .. } => 4,
             Refusal::Empty => 5,
             Refusal::Full => 6,
             Refusal::Output => 7,
         }
     }
 
-    /// The refusal's name.
+    /// The refusal's name, as C has it.
+    #[must_use]
     pub fn name(self) -> &'static str {
         match self {
             Refusal::Settings => "SETTINGS",
             Refusal::Room => "ROOM",
             Refusal::Tree { .. } => "TREE",
-            Refusal::Shape { .. } => "SHAPE",
+            Refusal::RowShape { .. } | Refusal::BatchShape { .. } => "SHAPE",
             Refusal::Empty => "EMPTY",
             Refusal::Full => "FULL",
             Refusal::Output => "OUTPUT",
         }
     }
 
-    /// What is returned beside the number.
-    pub fn values(self) -> Vec<u64> {
-        match self {
-            Refusal::Tree { condition } => vec![condition],
-            Refusal::Shape { dim, got } => vec![dim, got],
-            _ => Vec::new(),
-        }
+    /// What is returned beside the number: nothing, a condition, or dim and a count.
+    #[must_use]
+    pub fn values(self) -> impl ExactSizeIterator<Item = u64> {
+        let (values, count) = match self {
+            Refusal::Tree { condition } => ([condition, 0], 1),
+            Refusal::RowShape { dim, got } => ([dim, got], 2),
+            Refusal::BatchShape { dim, left_over } => ([dim, left_over], 2),
+            _ => ([0, 0], 0),
+        };
+        values.into_iter().take(count)
     }
 }
 
@@ -101,14 +133,18 @@ impl fmt::Display for Refusal {
             }
             Refusal::Room => write!(f, "a lent buffer is shorter than needed"),
             Refusal::Tree { condition } => {
+                let asked = asked(*condition);
                 write!(
                     f,
-                    "the tree fails condition {condition} of the tree check: {}",
-                    asked(*condition)
+                    "the tree fails condition {condition} of the tree check: {asked}"
                 )
             }
-            Refusal::Shape { dim, got } => {
-                write!(f, "rows have {dim} numbers; this one has {got}, or {got} are left over of a batch")
+            Refusal::RowShape { dim, got } => {
+                write!(f, "rows have {dim} numbers; this row has {got}")
+            }
+            Refusal::BatchShape { dim, left_over } => {
+                let are = if *left_over == 1 { "is" } else { "are" };
+                write!(f, "rows have {dim} numbers; {left_over} {are} left over")
             }
             Refusal::Empty => write!(f, "no row can be routed in a tree with no entries"),
             Refusal::Full => write!(f, "the tree would count more than 2^53 rows"),
@@ -117,4 +153,4 @@ impl fmt::Display for Refusal {
     }
 }
 
-impl std::error::Error for Refusal {}
+impl core::error::Error for Refusal {}

@@ -14,6 +14,10 @@ use Rattle.export.specs.declared.HeadNumbers.{HeadNumbers}
 use Rattle.export.specs.declared.AnswerNumbers.{AnswerNumbers}
 use Rattle.export.specs.declared.OutcomeNumbers.{OutcomeNumbers}
 
+-- of the boundary, 0.1.0: what header, Rust crate and archive have to agree on
+abbrev pub version : ℕ
+version = 100
+
 unfoldable pub headOf : HeadNumbers → Head
 headOf h =
     record {

@@ -3,6 +3,7 @@ pub mod change;
 pub mod given;
 pub mod look;
 pub mod sizes;
+pub mod version;
 
 // A head as a caller has it. Nothing in it is trusted.
 #[repr(C)]

@@ -9,7 +9,7 @@ use cftree::lent::{self, Head, Lent, Outcome, Places};
 use cftree::Refusal;
 
 fn refused(why: Refusal) -> String {
-    let values: String = why.values().iter().map(|v| format!(" {v}")).collect();
+    let values: String = why.values().map(|v| format!(" {v}")).collect();
     format!("refused {}{values}", why.number())
 }
 
@@ -233,7 +233,8 @@ impl Library {
             means: layout.dim as u64,
             deviations: layout.deviations as u64,
         };
-        if lent::entries(h, &self.floats, &self.links) != answer.map(|()| places) {
+        let listed = lent::entries(h, &self.floats, &self.links).map(|entries| entries.places());
+        if listed != answer.map(|()| places) {
             return Ok("broken: the listing is not as the tree check and the layout".into());
         }
         if !self.holds(&floats, &links) {

@@ -149,21 +149,20 @@ impl Library {
     /// Document 01's listing, its entries read where the library says they stand.
     pub fn listing(&self) -> Result<Vec<String>, String> {
         let h = self.tree.as_ref().ok_or("no tree")?.head;
-        let places =
+        let entries =
             lent::entries(h, &self.floats, &self.links).map_err(|why| format!("listing: {why}"))?;
         let total = self.plain()?.nodes[h.root as usize].summary[0];
         let mut out = vec![format!(
             "{}\t{}\t{}\t{}",
-            places.entries,
+            entries.len(),
             hex(h.threshold),
             h.rebuilds,
             total as u64
         )];
-        for i in 0..places.entries as usize {
-            let slot = &self.floats[places.first as usize + i * places.width as usize..];
-            let numbers = &slot[1..1 + (places.means + places.deviations) as usize];
-            let words: String = numbers.iter().map(|x| format!("\t{}", hex(*x))).collect();
-            out.push(format!("{i}\t{}{words}", slot[0] as u64));
+        for (i, entry) in entries.enumerate() {
+            let numbers = entry.means.iter().chain(entry.deviations);
+            let words: String = numbers.map(|x| format!("\t{}", hex(*x))).collect();
+            out.push(format!("{i}\t{}{words}", entry.weight as u64));
         }
         Ok(out)
     }

@@ -80,14 +80,22 @@ fn ask_look(
     }
 }
 
-// The answer, and '!' where what was lent to a refused call is not as it was.
-fn print_kept(a: Answer, before: u64, after: u64) {
-    printing::print_answer(a);
+// '!' where what was lent to a refused call is not as it was.
+fn print_mark(a: Answer, before: u64, after: u64) {
     if before == after {
         return;
     }
     if !printing::is_accepted(a) {
         printing::print(b"!");
+    }
+}
+
+// The answer with its mark, as wide as its column; nothing follows the last column.
+fn print_kept(c: Case, a: Answer, before: u64, after: u64) {
+    printing::print_answer(a);
+    print_mark(a, before, after);
+    if c.inside == 0 {
+        printing::print_blanks(a);
     }
 }
 
@@ -153,7 +161,7 @@ fn print_change(
         &rows[0..r],
     );
     let after = fold(floats, links, scratch, numbers);
-    print_kept(a, before, after);
+    print_kept(c, a, before, after);
 }
 
 fn print_look(
@@ -184,5 +192,5 @@ fn print_look(
         &mut spreads[0..p],
     );
     let after = fold_links(fold_floats(1, spreads), routes);
-    print_kept(a, before, after);
+    print_kept(c, a, before, after);
 }

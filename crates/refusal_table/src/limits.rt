@@ -3,9 +3,17 @@ use crate::printing::print;
 use crate::printing::print_answer;
 use cftree::change;
 use head::Head;
+use head::refusal::Answer;
+
+// A line: the call and its answer.
+fn print_reading(call: &[u8], a: Answer) {
+    print(call);
+    print_answer(a);
+    print(b"\n");
+}
 
 // A tree of total 2^53 − 1: one row is accepted, and the next is FULL.
-pub fn print_total() {
+fn print_total() {
     let mut floats = [0.0; 15];
     let mut links = [0u32; 15];
     let mut scratch = [0.0; 6];
@@ -39,28 +47,29 @@ pub fn print_total() {
         &mut numbers,
         &row,
     );
-    print(b"total 2^53 - 1: one row ");
     let a = last.answer;
-    print_answer(a);
-    print(b", the next ");
     let b = over.answer;
-    print_answer(b);
-    print(b"\n");
+    print_reading(b"a row into a tree of 2^53 - 1 rows  ", a);
+    print_reading(b"a row into a tree of 2^53 rows      ", b);
 }
 
 // M 256 in slices just as long as it needs, and M 257.
-pub fn print_most() {
+fn print_most() {
     let mut floats = [0.0; 100230];
     let mut links = [0u32; 165765];
     let most = Head::new(1, 2, 1, 256, 0, 0, 0, 0.0);
     let over = Head::new(1, 2, 1, 257, 0, 0, 0, 0.0);
     let made = change::create(most, &mut floats, &mut links);
     let refused = change::create(over, &mut floats, &mut links);
-    print(b"M 256: ");
     let a = made.answer;
-    print_answer(a);
-    print(b", M 257: ");
     let b = refused.answer;
-    print_answer(b);
-    print(b"\n");
+    print_reading(b"a tree of M 256                     ", a);
+    print_reading(b"a tree of M 257                     ", b);
+}
+
+pub fn print_limits() {
+    print(b"\nAt the limits\n");
+    print(b"call                                answer\n");
+    print_total();
+    print_most();
 }

@@ -1,6 +1,7 @@
-// For each call and each refusal that it can give: an input with that fault alone, one with the next fault besides, and one just
-// inside. Prints the answers, 0 for accepted, and '!' behind one where a refused call changed what was lent.
+// Each refusal of each call, the readings at the limits and each condition of the tree check, with the answers that the
+// library gives. '!' stands behind one where a refused call changed what was lent.
 mod asking;
+mod conditions;
 mod lending;
 mod limits;
 mod printing;
@@ -38,18 +39,15 @@ fn pick(a: u32, b: u32, c: u32, d: u32, e: u32, f: u32, k: u32) -> u32 {
 // One line: the call, the refusal, and the three answers.
 fn print_line(call: u32, fault: u32, next: u32) {
     crate::printing::print_name(call);
-    print(b" ");
-    crate::printing::print_number(fault as u64);
-    print(b": ");
+    crate::printing::print_fault(fault);
     print_case(Case {
         call,
         fault,
         other: 0,
         inside: 0,
     });
-    print(b", ");
     if next == 0 {
-        print(b"-");
+        print(b"-                 ");
     } else {
         print_case(Case {
             call,
@@ -58,7 +56,6 @@ fn print_line(call: u32, fault: u32, next: u32) {
             inside: 0,
         });
     }
-    print(b", ");
     print_case(Case {
         call,
         fault: 0,
@@ -78,10 +75,30 @@ fn print_call(call: u32) {
     }
 }
 
-fn main() {
+// What stands in the columns of the calls.
+fn print_heading() {
+    print(
+        b"Each call with each refusal that it can give, in order of checking: its answer to an input with that fault alone, to one\n",
+    );
+    print(
+        b"with the next fault too, and to one just inside the limit. TREE has the lowest condition that fails, SHAPE dim and a row's\n",
+    );
+    print(
+        b"length or what a batch leaves over. An ! behind an answer: the refused call changed what was lent.\n",
+    );
+    print(b"call          refusal     that fault alone  the next one too  just inside\n");
+}
+
+// The lines of every call.
+fn print_calls() {
+    print_heading();
     for call in 0..8 {
         print_call(call);
     }
-    crate::limits::print_total();
-    crate::limits::print_most();
+}
+
+fn main() {
+    print_calls();
+    crate::limits::print_limits();
+    crate::conditions::print_conditions();
 }

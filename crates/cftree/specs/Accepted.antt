@@ -1,12 +1,10 @@
 -- What an accepted call may lean on: no refusal applies.
 use Prim.Native.Nat.{ℕ, _+_, _*_, _/_, _≤_, _<_}
-use mathlib.Core.Path.{_≡_, ap}
+use mathlib.Core.Path.{_≡_}
 use mathlib.Core.List.{List, _++_}
 use native.Mathlib.Nat.{div-mul-le-self}
-use native.Mathlib.Omega.{arith}
 use lib.Dec.{T}
 use lib.ListN.{length, getD}
-use lib.Seq.{take-all}
 use lib.Ieee.{Float, binary64, fits}
 use Rattle.binary64.specs.Whole.{most}
 use Rattle.head.specs.declared.Head.{Head}
@@ -14,22 +12,15 @@ use Rattle.head.specs.declared.Settings.{Settings}
 use Rattle.head.specs.declared.refusal.Refusal.{Refusal}
 use Rattle.head.specs.declared.refusal.Answer.the-variants.{Accepted}
 use Rattle.head.specs.Heads.{settingsOf}
-use Rattle.rules.specs.Lists.{rowsOf}
 use Rattle.rules.specs.Tree.{Tree}
 use Rattle.rules.specs.Check.{totalOf}
-use Rattle.rules.specs.Rebuild.{inserted, insertedAll}
 use Rattle.rules.specs.Calls.{Lent, answerOf, changeRefusals, rowRefusals, rowShapeRefusal, batchRefusals, batchShapeRefusal, refitFullRefusal, lentTree}
 use Rattle.rules.specs.RefusalLaws.{accepted-none, none-both, row-shape-none, insert-full-none, refit-full-none}
 use Rattle.rules.specs.CallLaws.{Ready, change-ready}
 use Rattle.laws.specs.Check.Both.{AtRest, passing-rests}
 use Rattle.validate.specs.Granted.{lent-binary64}
-use Rattle.fronts.specs.declared.work.Work.the-variants.{Insert, Refit}
-use Rattle.fronts.specs.Worked.{worked, Workable}
-
--- a row is a batch of one
-pub one-row : (s : Settings) (x : List Float) (t : Tree) → length x ≡ s .dim → worked Insert s (rowsOf 1 (s .dim) x) t ≡ inserted s x t
-unfolding worked insertedAll rowsOf
-one-row s x t e = ap (λ y. inserted s y t) (take-all (s .dim) x (omega arith))
+use Rattle.work.specs.declared.Work.the-variants.{Insert, Refit}
+use Rattle.work.specs.Worked.{Workable}
 
 -- whole rows fill no more than there is
 pub rows-in : (n dim : ℕ) → n / dim * dim ≤ n

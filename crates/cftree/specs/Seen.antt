@@ -22,7 +22,7 @@ use Rattle.arena.specs.Trees.{Floats, Links, count-entries}
 use Rattle.validate.specs.Granted.{lent-binary64}
 use Rattle.validate.specs.Passing.{passing-floats, passing-links}
 use Rattle.refusals.specs.Granted.{look-grants}
-use Rattle.refit.specs.Routing.{Routable, rest-routable}
+use Rattle.route.specs.Routing.{Routable, rest-routable}
 
 module _ (h : Head) (fs : List Float) (ls : List ℕ) where
   abbrev s : Settings

@@ -4,11 +4,11 @@ ghost use Rattle.rules.specs.Calls.{created, rowInserted, batchInserted, batchR
 ghost use Rattle.refusals.specs.Lending.{lending};
 ghost use Rattle.cftree.specs.Outcomes.{made, left};
 use crate::Outcome;
-use fronts::change::change;
-use fronts::work::Work;
 use head::Head;
 use head::refusal::Answer;
 use refusals::lent;
+use work::Work;
+use work::change::change;
 
 // Creation of an empty tree with the head's settings and threshold.
 pub fn create(h: Head, floats: &mut [f64], links: &mut [u32]) -> Outcome

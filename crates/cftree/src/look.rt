@@ -4,6 +4,7 @@ ghost use Rattle.rules.specs.Calls.{routed, spreadWritten, validated, listed};
 ghost use Rattle.cftree.specs.Looks.{listing, written};
 use head::Head;
 use head::refusal::Answer;
+use outputs::places::places;
 use outputs::routes::write_routes;
 use outputs::spread::write_spread;
 use refusals::lent;
@@ -37,16 +38,7 @@ pub fn entries(h: Head, floats: &[f64], links: &[u32]) -> Listing
         };
         return Listing { answer, places };
     };
-    let s = h.settings();
-    let width = s.slot_width();
-    let feature = s.feature;
-    let places = Places {
-        entries: h.counters.entries,
-        first: s.node_cap() * width,
-        width,
-        means: s.dim,
-        deviations: feature::slots(feature, s.dim),
-    };
+    let places = places(h);
     Listing { answer, places }
 }
 

@@ -14,7 +14,6 @@ use Rattle.rules.specs.Tree.{Tree, nodeAt, withNodes, summed}
 use Rattle.rules.specs.Slices.{treeOf}
 use Rattle.rules.specs.Descent.{closest, descended, leafFor, climbed, alongPath}
 use Rattle.arena.specs.Trees.{count-nodes, onNode}
-use Rattle.stretch.specs.declared.block.Parent.the-variants as P
 
 -- ---- down
 

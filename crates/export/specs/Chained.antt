@@ -4,11 +4,10 @@ use mathlib.Core.Path.{_≡_, refl, sym, subst}
 use mathlib.Core.List.{List, [], _∷_, _++_}
 use lib.Ieee.{Float}
 use Rattle.head.specs.Heads.{settingsOf}
-use Rattle.head.specs.declared.refusal.Answer.the-variants.{Accepted}
 use Rattle.rules.specs.Calls.{Lent, Left, lentTree, created, rowInserted, batchInserted, batchRefitted}
 use Rattle.laws.specs.Demand.{rowsIn, rowsRefit, after, ownersIn, ownersAll, ownersRefit, Calls, create, row, batch, refitAll}
-use Rattle.export.specs.declared.HeadNumbers.{HeadNumbers}
-use Rattle.export.specs.Numbers.{headOf, headNumbers, answerNumbers, zero-accepts}
+use Rattle.boundary.specs.declared.HeadNumbers.{HeadNumbers}
+use Rattle.boundary.specs.Numbers.{headOf, headNumbers, zero-accepts}
 use Rattle.export.specs.Given.{LeftNumbers, leftNumbers, MadeNumbers, madeNumbers}
 
 -- the calls so far, by the numbers that the last one gave back

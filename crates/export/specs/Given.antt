@@ -12,10 +12,13 @@ use Rattle.rules.specs.Calls.{Lent, Left, Made}
 use Rattle.refusals.specs.Lending.{lending}
 use Rattle.cftree.specs.Outcomes as Plain
 use Rattle.cftree.specs.declared.Outcome.{Outcome}
-use Rattle.export.specs.Numbers.{headNumbers, answerNumbers, outcomeNumbers}
+use Rattle.boundary.specs.Numbers.{headNumbers, answerNumbers}
 use Rattle.export.specs.declared.OutcomeNumbers.{OutcomeNumbers}
 
 -- ---- a changing call
+
+unfoldable pub outcomeNumbers : Outcome → OutcomeNumbers
+outcomeNumbers o = record { head = headNumbers (o .head); answer = answerNumbers (o .answer) }
 
 pub record LeftNumbers : Type 0 where
   pub outcome : OutcomeNumbers

@@ -1,5 +1,4 @@
 -- The public calls in numbers that C and Rust can pass.
-pub mod Numbers
 pub mod Given
 pub mod Seen
 pub mod Chained

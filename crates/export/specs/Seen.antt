@@ -1,13 +1,12 @@
 -- What a call that only reads gives back and writes: the rules' outcome, its answer in numbers.
-use mathlib.Core.Path.{_≡_, ap, _∙_}
+use mathlib.Core.Path.{_≡_, ap}
 use mathlib.Core.List.{List}
 use Rattle.rules.specs.Calls.{Listed, Written}
-use Rattle.rules.specs.declared.Places.{Places}
 use Rattle.head.specs.declared.refusal.Answer.{Answer}
 use Rattle.cftree.specs.Looks as Plain
 use Rattle.cftree.specs.declared.look.Listing.{Listing}
-use Rattle.export.specs.Numbers.{answerNumbers}
-use Rattle.export.specs.declared.AnswerNumbers.{AnswerNumbers}
+use Rattle.boundary.specs.Numbers.{answerNumbers}
+use Rattle.boundary.specs.declared.AnswerNumbers.{AnswerNumbers}
 use Rattle.export.specs.declared.ListingNumbers.{ListingNumbers}
 
 -- ---- where the entries stand

@@ -2,12 +2,12 @@
 ghost use mathlib.Core.Path.{_≡_};
 ghost use Rattle.rules.specs.Calls.{created, rowInserted, batchInserted, batchRefitted};
 ghost use Rattle.refusals.specs.Lending.{lending};
-ghost use Rattle.export.specs.Numbers.{headOf};
+ghost use Rattle.boundary.specs.Numbers.{headOf};
 ghost use Rattle.export.specs.Given.{made, madeNumbers, left, leftNumbers};
-use crate::HeadNumbers;
 use crate::OutcomeNumbers;
-use crate::given::head_of;
 use crate::given::outcome_numbers;
+use boundary::HeadNumbers;
+use boundary::given::head_of;
 use cftree::change;
 
 // Creation of an empty tree with the head's settings and threshold.

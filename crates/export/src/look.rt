@@ -1,14 +1,14 @@
 // The calls that only read the tree.
 ghost use mathlib.Core.Path.{_≡_};
 ghost use Rattle.rules.specs.Calls.{routed, spreadWritten, validated, listed};
-ghost use Rattle.export.specs.Numbers.{headOf, answerNumbers};
+ghost use Rattle.boundary.specs.Numbers.{headOf, answerNumbers};
 ghost use Rattle.export.specs.Seen.{listedNumbers, written, writtenNumbers};
-use crate::AnswerNumbers;
-use crate::HeadNumbers;
 use crate::ListingNumbers;
-use crate::given::answer_numbers;
-use crate::given::head_of;
 use crate::given::listing_numbers;
+use boundary::AnswerNumbers;
+use boundary::HeadNumbers;
+use boundary::given::answer_numbers;
+use boundary::given::head_of;
 use cftree::look;
 
 // Whether the tree could be worked with.

@@ -1,10 +1,10 @@
 // How many words each lent buffer needs, by the settings in a head; 0 where the head is outside its limits.
 ghost use mathlib.Core.Path.{_≡_};
 ghost use Rattle.head.specs.Sizes.{floatsNeeded, linksNeeded, scratchFloatsNeeded, scratchLinksNeeded};
-ghost use Rattle.export.specs.Numbers.{headOf};
+ghost use Rattle.boundary.specs.Numbers.{headOf};
 ghost use Rattle.export.specs.Given.{needed};
-use crate::HeadNumbers;
-use crate::given::head_of;
+use boundary::HeadNumbers;
+use boundary::given::head_of;
 
 #[no_mangle]
 pub extern "C" fn cftree_floats_needed(h: HeadNumbers) -> u64

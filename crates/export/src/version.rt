@@ -1,13 +1,10 @@
-// Which version of header and Rust crate an archive goes with.
+// The archive's version, for a caller to hold against its own.
 ghost use mathlib.Core.Path.{_≡_};
-ghost use Rattle.export.specs.Numbers.{version};
-
-// 0.1.0 as major · 10000 + minor · 100 + patch. A struct, a number or a function that changes at the boundary changes it.
-const VERSION: u32 = 100;
+ghost use Rattle.boundary.specs.Numbers.{version};
 
 #[no_mangle]
 pub extern "C" fn cftree_version() -> u32
     ensures { λ r. ⌜ r ≡ version ⌝ }
 {
-    VERSION
+    boundary::version::version()
 }

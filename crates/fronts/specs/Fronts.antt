@@ -15,7 +15,7 @@ use Rattle.rules.specs.Tree.{Tree, fresh}
 use Rattle.rules.specs.Reinsert.{cleared}
 use Rattle.rules.specs.Slices.{treeOf, countersOf, floatsOf, linksOf}
 use Rattle.arena.specs.Trees.{Floats, Links, count-nodes, count-entries}
-use Rattle.rebuild.specs.Rebuilding.{Scratch}
+use Rattle.scratch.specs.Stored.{Scratch}
 
 -- ---- what is lent
 

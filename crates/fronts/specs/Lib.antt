@@ -1,4 +1,3 @@
 -- The needed fronts of the lent slices, and what an accepted call leaves there.
 pub mod Fronts
-pub mod Worked
 pub mod Whole

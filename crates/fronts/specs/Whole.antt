@@ -1,80 +1,25 @@
--- The whole slices after a call: the front new, the rest as lent.
+-- The whole slices after a creation: the front new, the rest as lent.
 use Prim.Native.Nat.{ℕ}
 use mathlib.Core.Path.{_≡_}
 use mathlib.Core.List.{List, [], _++_}
-use native.Mathlib.Omega.{arith}
-use lib.ListN.{length, drop, take}
+use lib.ListN.{length, drop}
 use lib.Ieee.{Float}
 use Rattle.head.specs.declared.Head.{Head}
 use Rattle.head.specs.declared.Counters.{Counters}
 use Rattle.head.specs.declared.refusal.Answer.the-variants.{Accepted}
 use Rattle.head.specs.Heads.{settingsOf, newCounters, withCounters}
-use Rattle.head.specs.Limits.{Sized, allowed-sized}
-use Rattle.head.specs.Sizes.{floatsNeeded, linksNeeded, scratchFloatsNeeded, scratchLinksNeeded}
-use Rattle.rules.specs.Tree.{Tree, fresh}
-use Rattle.rules.specs.Slices.{treeOf, countersOf}
-use Rattle.rules.specs.Calls.{Lent, Left, Made, lentTree, changed, madeBy}
-use Rattle.rules.specs.CallLaws.{Ready, put-front}
-use Rattle.arena.specs.Trees.{Floats, Links}
-use Rattle.arena.specs.Cut.{tree-cut}
-use Rattle.validate.specs.Passing.{passing-floats, passing-links}
-use Rattle.refusals.specs.Lending.{lending}
-use Rattle.fronts.specs.Fronts.{Fronts, TreeLeft, AllLeft}
+use Rattle.rules.specs.Tree.{fresh}
+use Rattle.rules.specs.Slices.{countersOf}
+use Rattle.rules.specs.Calls.{Made, madeBy}
+use Rattle.rules.specs.CallLaws.{put-front}
+use Rattle.fronts.specs.Fronts.{TreeLeft}
 
--- what an accepted call gives back and leaves
+-- what creation gives back and leaves
 abbrev pub made : Head → List Float → List ℕ → Made
 made g fs ls = record { head = g; answer = Accepted; floats = fs; links = ls }
-
-abbrev pub left : Head → List Float → List ℕ → List Float → List ℕ → Left
-left g fs ls sf sl = record { head = g; answer = Accepted; lent = lending fs ls sf sl }
-
--- ---- creation
 
 pub made-whole : (h : Head) (fs : List Float) (ls : List ℕ) {g : Head} {n : Counters} {gs : List Float} {ks : List ℕ} {i j : ℕ}
     → TreeLeft (settingsOf h) (fresh (h .counters .threshold)) n gs ks → g ≡ withCounters h n → length gs ≡ i → length ks ≡ j
     → made g (gs ++ drop i fs) (ks ++ drop j ls) ≡ madeBy [] h fs ls
 unfolding madeBy countersOf fresh newCounters
 made-whole h fs ls {g} {n} {gs} {ks} {i} {j} t c p o = rw (put-front gs fs i p, put-front ks ls j o, c, t .counters, t .floats, t .links)
-
--- ---- rows
-
-module _ (h : Head) (l : Lent) (ready : Ready h l) where
-  pub sized : Sized (settingsOf h)
-  sized = allowed-sized h (ready .allows)
-
-  floats-in : Floats (settingsOf h) (h .counters) (length (l .floats))
-  unfolding lentTree
-  floats-in = passing-floats (settingsOf h) (h .counters) (l .floats) (l .links) (ready .passes) sized (ready .floats-room)
-
-  links-in : Links (settingsOf h) (h .counters) (length (l .links))
-  unfolding lentTree
-  links-in = passing-links (settingsOf h) (h .counters) (l .floats) (l .links) (ready .passes) sized (ready .links-room)
-
-  -- the needed fronts serve, and hold the tree that is lent
-  pub fronts : {a b c d : ℕ} → a ≡ floatsNeeded (settingsOf h) → b ≡ linksNeeded (settingsOf h) → c ≡ scratchFloatsNeeded (settingsOf h)
-      → d ≡ scratchLinksNeeded (settingsOf h) → Fronts (settingsOf h) (h .counters) a b c d
-  fronts p q r o =
-      let f = floats-in in
-      let k = links-in in
-      record {
-        tree = record {
-          floats-in = record { sized = sized; nodes-in = f .nodes-in; entries-in = f .entries-in; room = omega arith };
-          links-in = record { sized = sized; nodes-in = k .nodes-in; room = omega arith };
-          floats-exact = p;
-          links-exact = q;
-        };
-        scratch-exact = r;
-        numbers-exact = o;
-      }
-
-  pub cut : {j k : ℕ} → j ≡ floatsNeeded (settingsOf h) → k ≡ linksNeeded (settingsOf h)
-      → treeOf (settingsOf h) (h .counters) (take j (l .floats)) (take k (l .links)) ≡ lentTree h (l .floats) (l .links)
-  unfolding lentTree
-  cut p q = tree-cut (settingsOf h) (h .counters) (l .floats) (l .links) floats-in links-in p q
-
-pub left-whole : (h : Head) (l : Lent) (t : Tree) {g : Head} {n : Counters} {gs : List Float} {ks : List ℕ} {ss : List Float} {ns : List ℕ} {i j k m : ℕ}
-    → AllLeft (settingsOf h) t n gs ks ss ns → g ≡ withCounters h n → length gs ≡ i → length ks ≡ j → length ss ≡ k → length ns ≡ m
-    → left g (gs ++ drop i (l .floats)) (ks ++ drop j (l .links)) (ss ++ drop k (l .scratchFloats)) (ns ++ drop m (l .scratchLinks)) ≡ changed h l t
-unfolding changed
-left-whole h l t {g} {n} {gs} {ks} {ss} {ns} {i} {j} {k} {m} d c p o u v =
-    rw (put-front gs (l .floats) i p, put-front ks (l .links) j o, put-front ss (l .scratchFloats) k u, put-front ns (l .scratchLinks) m v, c, d .tree .counters, d .tree .floats, d .tree .links, d .scratch, d .numbers)

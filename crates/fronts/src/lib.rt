@@ -1,5 +1,3 @@
-// The needed front of each lent slice: a call's work there, and the slices left as document 01 says.
-pub mod change;
+// The needed front of each lent slice: an empty tree made there, and the slices left as document 01 says.
 pub mod create;
 pub mod tidy;
-pub mod work;

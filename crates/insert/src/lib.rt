@@ -6,7 +6,7 @@ ghost use Rattle.rules.specs.Lists.{rowsOf};
 ghost use Rattle.rules.specs.Slices.{treeOf};
 ghost use Rattle.rules.specs.Rebuild.{inserted, insertedAll};
 ghost use Rattle.arena.specs.Trees.{Floats, Links};
-ghost use Rattle.rebuild.specs.Rebuilding.{Scratch};
+ghost use Rattle.scratch.specs.Stored.{Scratch};
 ghost use Rattle.insert.specs.Resting.{Resting};
 use grow::grow;
 use head::Counters;

@@ -1,7 +1,7 @@
 -- Beneath every node of a standing tree there is a leaf, and so no list is longer than the leaves or the entries are many.
 use Prim.Native.Nat.{ℕ, zero, suc, _+_, _≤_, _<_}
 use mathlib.Core.Path.{_≡_, refl, ap, _∙_}
-use mathlib.Core.Bool.{Bool, true, false, cond}
+use mathlib.Core.Bool.{true, false, cond}
 use mathlib.Core.Logic.{_⊎_, inl, inr}
 use mathlib.Core.List.{List, [], _∷_}
 use native.Mathlib.Omega.{arith}
@@ -14,7 +14,7 @@ use Rattle.laws.specs.Counting.Sums.{over, length-over, occurs-here, occurs-lat
 use Rattle.laws.specs.Invariant.Links.{leaf?}
 use Rattle.laws.specs.Invariant.Beneath.{Frame, kid-below, leaves-sum, deep-le}
 use Rattle.laws.specs.Invariant.Collected.{under, under-leaf, under-inner}
-use Rattle.laws.specs.ForCode.{Framed, Standing, leafCount}
+use Rattle.laws.specs.ForCode.{Standing, leafCount}
 
 -- 1 for a leaf
 unfoldable pub oneLeaf : Tree → ℕ → ℕ

@@ -10,10 +10,10 @@ use Rattle.rules.specs.Calls.{lentTree}
 use Rattle.rules.specs.Listing.{cut, badLine, rowlist}
 use Rattle.reports.specs.Lines.{Wrote, wrote-is}
 use Rattle.reasons.specs.declared.Reason.{Reason}
-use Rattle.listing.specs.declared.Stage.{Stage}
-use Rattle.listing.specs.declared.Stage.the-variants as Stages
-use Rattle.listing.specs.declared.Run.{Run}
-use Rattle.listing.specs.Runs.{listedAt, listed, reads-none, reads-both, Begun, Reads, printed}
+use Rattle.lines.specs.declared.Stage.{Stage}
+use Rattle.lines.specs.declared.Stage.the-variants as Stages
+use Rattle.lines.specs.declared.Run.{Run}
+use Rattle.lines.specs.Runs.{listedAt, listed, reads-none, reads-both, Begun, Reads, printed}
 
 -- from a run that prints f, chunk after chunk read as `feed` ensures, to one that prints g
 pub data Fed : (List ℕ → List ℕ) → List (List ℕ) → (List ℕ → List ℕ) → Type 0 where

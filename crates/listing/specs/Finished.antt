@@ -20,12 +20,12 @@ use Rattle.validate.specs.Passing.{passing-floats, passing-counts}
 use Rattle.reports.specs.Entries.{Reportable}
 use Rattle.laws.specs.Runs.OneCall.{sizes-of}
 use Rattle.reasons.specs.declared.Reason.{Reason}
-use Rattle.listing.specs.declared.Stage.{Stage}
-use Rattle.listing.specs.declared.Stage.the-variants as Stages
-use Rattle.listing.specs.declared.Run.{Run}
-use Rattle.listing.specs.Runs.{listedAt, listed, Grown, Stands, stage-stands}
-use Rattle.listing.specs.Heads.{floats-enough}
-use Rattle.listing.specs.Rows.{grown-rests, grown-passes, grown-total, grown-few}
+use Rattle.lines.specs.declared.Stage.{Stage}
+use Rattle.lines.specs.declared.Stage.the-variants as Stages
+use Rattle.lines.specs.declared.Run.{Run}
+use Rattle.lines.specs.Runs.{listedAt, listed, Grown, Stands, stage-stands}
+use Rattle.lines.specs.Heads.{floats-enough}
+use Rattle.lines.specs.Rows.{grown-rests, grown-passes, grown-total, grown-few}
 
 -- a run over its rows can report, and each row weighs one
 pub reportable : {n : ℕ} {h : Head} {fs : List Float} {ks : List ℕ} → Grown n h fs ks → 5950 ≤ length fs → Reportable h (n - 2) fs ks

@@ -4,10 +4,9 @@ ghost use mathlib.Core.List.{[]};
 ghost use Prim.Native.Nat.{_≤_};
 ghost use lib.ListN.{length};
 ghost use Rattle.reports.specs.Lines.{page, Wrote};
-ghost use Rattle.listing.specs.Runs.{Room, Stands, Reading, Ended, listed, printed};
-use crate::Run;
-use crate::Stage;
-use crate::lines;
+ghost use Rattle.lines.specs.Runs.{Room, Stands, Reading, Ended, listed, printed};
+use lines::Run;
+use lines::Stage;
 use reports::write_bad;
 use reports::write_report;
 

@@ -1,38 +1,20 @@
 // The listing of an input that is there as a whole, `list`, or comes in chunks: `begin`, any number of `feed`, `finish`.
 pub mod finish;
-pub mod lines;
 
 ghost use mathlib.Core.Path.{_≡_};
 ghost use Prim.Native.Nat.{_≤_};
 ghost use lib.ListN.{length};
 ghost use Rattle.rules.specs.Listing.{rowlist};
 ghost use Rattle.reports.specs.Lines.{page, Wrote};
-ghost use Rattle.listing.specs.Runs.{Begun, Room, Reading, printed, Reads};
+ghost use Rattle.lines.specs.Runs.{Begun, Room, Reading, printed, Reads};
 ghost use Rattle.listing.specs.Whole.{shown, listedTo};
 use head::Head;
 use head::refusal::Answer;
 use head::refusal::Refusal;
+use lines::Run;
+use lines::Stage;
 use reasons::Reason;
 use reports::PAGE;
-
-// What is being read.
-pub enum Stage {
-    // Line 1.
-    First,
-    // Rows.
-    Rows,
-    // Nothing more: a line was malformed, refused or too long, for this reason.
-    Bad(Reason),
-}
-
-// A run between two chunks: the head of the tree in the lent slices, the number of the line that is being read, or of the bad
-// one, and how many of its bytes stand in the lent line.
-pub struct Run {
-    pub head: Head,
-    pub stage: Stage,
-    pub number: u64,
-    pub long: usize,
-}
 
 // A run that has read nothing.
 pub fn begin() -> Run

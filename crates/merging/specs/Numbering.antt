@@ -12,8 +12,12 @@ use borrow.Author.Tests.{ne-eqb}
 use lib.Dec.{eqb}
 use lib.ListN.{length, getD, set, take}
 use lib.Seq.{take-all}
+use Rattle.head.specs.declared.Settings.{Settings}
+use Rattle.head.specs.declared.Counters.{Counters}
+use Rattle.head.specs.Counting.{countEntries}
 use Rattle.rules.specs.Lists.{countUp}
 use Rattle.rules.specs.Rebuild.{renumber, numberIf}
+use Rattle.arena.specs.Trees.{Floats, Links, floats-entries, links-entries}
 use Rattle.scratch.specs.Flags.{wordAt, aliveAt, aliveIn, flag-down, flag-up, alive-is, alive-same, length-alive, word-here, word-other}
 
 -- ---- words
@@ -173,3 +177,16 @@ module _ (bs : List Bool) (ns : List ℕ) (e i : ℕ) (h : Numbered bs ns e) (l 
       go : (b : Bool) → some (wordAt ns i - 1) ≡ cond b (some (renumber bs i)) none → (b ≡ true) × (wordAt ns i - 1 ≡ renumber bs i)
       go true q = (refl, cc)
       go false q = let z : _≡_ {A = ℕ} 0 1 = cc in absurd (omega arith)
+
+-- ---- the slices serve as before
+
+-- with as many entries as were not merged away
+module _ (s : Settings) (n d : Counters) (ns : List ℕ) (e : d ≡ countEntries (countUp (aliveIn ns (n .entries))) n) {k : ℕ} where
+  pub floats-kept : Floats s n k → Floats s d k
+  floats-kept f =
+      let few = alive-few ns (n .entries) in
+      let most = f .entries-in in
+      rw e (floats-entries s n k (countUp (aliveIn ns (n .entries))) f (omega arith))
+
+  pub links-kept : Links s n k → Links s d k
+  links-kept l = rw e (links-entries s n k (countUp (aliveIn ns (n .entries))) l)

@@ -8,10 +8,10 @@ ghost use Rattle.rules.specs.Slices.{treeOf};
 ghost use Rattle.rules.specs.Refit.{route};
 ghost use Rattle.rules.specs.Calls.{fronted};
 ghost use Rattle.arena.specs.Trees.{Floats, Links};
-ghost use Rattle.refit.specs.Routing.{Routable};
+ghost use Rattle.route.specs.Routing.{Routable};
 use head::Counters;
 use head::Settings;
-use refit::route::route;
+use route::route;
 use rows::row;
 
 // The first `count` rows routed; without rows the tree may have no entries.

@@ -15,7 +15,7 @@ use Rattle.head.specs.declared.Settings.{Settings}
 use Rattle.head.specs.declared.Counters.{Counters}
 use Rattle.head.specs.Limits.{both}
 use Rattle.rules.specs.declared.Pair.{Pair}
-use Rattle.rules.specs.Tree.{Node, Tree, blankNode, nodeAt}
+use Rattle.rules.specs.Tree.{Tree, blankNode, nodeAt}
 use Rattle.rules.specs.Slices.{treeOf}
 use Rattle.rules.specs.Descent.{Best}
 use Rattle.arena.specs.Trees.{ChildrenIn}

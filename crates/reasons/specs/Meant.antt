@@ -13,8 +13,6 @@ use Prim.Native.String.{String}
 use Rattle.head.specs.Heads.{newHead, newCounters}
 use Rattle.head.specs.Limits.{within, sizesWithin, choicesWithin, thresholdWithin, allowed, both}
 use Rattle.rules.specs.Listing.{fieldsOf, decimal, featureWord, distanceWord, hexFloat, hexFloats, bytes, same, wordAt, taken, firstLine}
-use Rattle.text.specs.declared.Sizes.the-variants as S
-use Rattle.text.specs.declared.Choices.the-variants as C
 use Rattle.text.specs.declared.RowLine.the-variants.{Malformed}
 use Rattle.text.specs.Firsts.{SizesRead, ChoicesRead, goes, head-is, is-taken, line-eight}
 use Rattle.text.specs.Rows.{RowRead, floatsIn, floats-short}

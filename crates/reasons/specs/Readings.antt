@@ -5,7 +5,6 @@ use mathlib.Core.List.{List, [], _∷_, _++_}
 use mathlib.Core.Path.{_≡_, refl}
 use Rattle.rules.specs.Computes.{computes}
 use Rattle.rules.specs.Listing.{bytes}
-use Rattle.reasons.specs.declared.Reason.{Reason}
 use Rattle.reasons.specs.declared.Reason.the-variants as R
 use Rattle.reasons.specs.Reasons.{endsInReturn, isSome, sizeIn, settingAt, floatAt, wrongAt, reasonOf, firstReason, rowReason}
 

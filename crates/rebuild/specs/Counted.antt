@@ -1,24 +1,20 @@
 -- The counters that the merges and the rebuild leave.
-use Prim.Native.Nat.{ℕ, suc, _+_, _-_, _/_, _≤_, max}
+use Prim.Native.Nat.{ℕ, _+_, _-_, _/_, _≤_}
 use mathlib.Core.Path.{_≡_, refl, ap, _∙_, subst}
 use mathlib.Core.Bool.{Bool, true, false, cond, _||_}
 use mathlib.Core.List.{List}
 use native.Mathlib.Omega.{arith}
 use native.Mathlib.Numerals.{add-one}
-use borrow.Author.Tests.{lt-ltb, le-ltb}
 use lib.Dec.{ltb, leb}
 use lib.Ieee.{Float}
 use Rattle.head.specs.declared.Settings.{Settings}
 use Rattle.head.specs.declared.Counters.{Counters}
-use Rattle.head.specs.Counting.{thresholdAt, countMerged, countRebuilds, countEntries}
-use Rattle.rules.specs.Lists.{countUp}
+use Rattle.head.specs.Counting.{thresholdAt, countMerged, countRebuilds}
 use Rattle.rules.specs.Tree.{Tree, withMerged}
 use Rattle.rules.specs.Slices.{treeOf}
 use Rattle.rules.specs.Reinsert.{reinserted}
 use Rattle.rules.specs.Rebuild.{target, grownThreshold, counted, rebalanced}
-use Rattle.arena.specs.Trees.{Floats, Links, floats-same, links-same, floats-entries, links-entries}
-use Rattle.scratch.specs.Flags.{aliveIn}
-use Rattle.merging.specs.Numbering.{alive-few}
+use Rattle.arena.specs.Trees.{Floats, Links, floats-same, links-same}
 use Rattle.merging.specs.declared.merges.Merges.{Merges}
 
 -- the threshold grown by the widest gap, and the merges in the merged total
@@ -88,14 +84,3 @@ module _ (s : Settings) (n d : Counters) (same : SameCounts n d) {k : ℕ} where
 
   pub links-as : Links s n k → Links s d k
   links-as l = links-same s n k d (same .nodes) l
-
--- with as many entries as were not merged away
-module _ (s : Settings) (n d : Counters) (ns : List ℕ) (e : d ≡ countEntries (countUp (aliveIn ns (n .entries))) n) {k : ℕ} where
-  pub floats-kept : Floats s n k → Floats s d k
-  floats-kept f =
-      let few = alive-few ns (n .entries) in
-      let most = f .entries-in in
-      rw e (floats-entries s n k (countUp (aliveIn ns (n .entries))) f (omega arith))
-
-  pub links-kept : Links s n k → Links s d k
-  links-kept l = rw e (links-entries s n k (countUp (aliveIn ns (n .entries))) l)

@@ -1,37 +1,31 @@
 -- What a rebuild asks of the tree and of scratch, and what its parts then have.
-use Prim.Native.Nat.{ℕ, zero, suc, _+_, _-_, _*_, _≤_, _<_}
+use Prim.Native.Nat.{ℕ, _+_, _≤_, _<_}
 use mathlib.Core.Path.{_≡_, refl, sym, ap, ap₂, _∙_, subst}
-use mathlib.Core.Bool.{Bool, true, false, cond, _||_}
-use mathlib.Core.List.{List, [], _∷_, map}
+use mathlib.Core.Bool.{Bool, true, false}
+use mathlib.Core.List.{List, [], _∷_}
 use mathlib.Core.Option.{none}
-use native.Mathlib.Nat.{mul-le-mul-left, mul-one}
 use native.Mathlib.Omega.{arith}
-use lib.Dec.{leb, eqb}
 use lib.ListN.{length}
 use lib.Ieee.{Float}
 use Rattle.head.specs.declared.Settings.{Settings}
 use Rattle.head.specs.declared.Counters.{Counters}
 use Rattle.head.specs.Limits.{Sized}
-use Rattle.head.specs.Sizes.{entryCap, slotWidth}
+use Rattle.head.specs.Sizes.{entryCap}
 use Rattle.head.specs.Counting.{thresholdAt, countMerged}
 use Rattle.rules.specs.declared.Pair.{Pair}
-use Rattle.rules.specs.Lists.{countUp}
-use Rattle.rules.specs.Tree.{Tree, nodeAt, withNodes, withEntries, withMerged, listing}
+use Rattle.rules.specs.Tree.{Tree, withMerged}
 use Rattle.rules.specs.Slices.{treeOf}
-use Rattle.rules.specs.Pairs.{siblings, cousins, sorted}
-use Rattle.rules.specs.Reinsert.{reinserted}
+use Rattle.rules.specs.Pairs.{siblings, cousins}
 use Rattle.rules.specs.Refold.{refolded}
 use Rattle.rules.specs.Rebuild.{Merging, dropped, mergedBy, mergedWith, counted, rebuilt}
-use Rattle.laws.specs.Counting.Sums.{sumTo, sum-same}
 use Rattle.laws.specs.Invariant.Sound.{Settled, caps-of}
 use Rattle.laws.specs.Inserting.Grown.{Whole}
 use Rattle.laws.specs.Rebuilding.Merge.{Every, Merged}
 use Rattle.laws.specs.Rebuilding.Pairs.{NearPair, siblings-all, every-map}
 use Rattle.laws.specs.Rebuilding.Cousins.{FarPair, cousins-far}
-use Rattle.laws.specs.Rebuilding.Drop.{node-is, dropped-nodes}
-use Rattle.laws.specs.Rebuilding.Rebuilt.{mergeStart, mergesOf, merges-merged, near-far, mergedWith-fewer, frame-w, rows-w, counted-w, length-w, pos-w}
-use Rattle.laws.specs.ForCode.{Framed, Standing, leafCount, settled-framed, settled-standing}
-use Rattle.scratch.specs.Stored.{Room, pairsIn, length-pairs}
+use Rattle.laws.specs.Rebuilding.Rebuilt.{mergesOf, merges-merged, near-far, mergedWith-fewer}
+use Rattle.laws.specs.ForCode.{Framed, Standing, settled-framed, settled-standing}
+use Rattle.scratch.specs.Stored.{pairsIn, length-pairs}
 use Rattle.scratch.specs.Flags.{aliveIn}
 use Rattle.merging.specs.Pruning.{LeavesIn, leaves-framed, leaves-same}
 use Rattle.merging.specs.declared.merges.Merges.{Merges}
@@ -42,11 +36,6 @@ use Rattle.rebuild.specs.Counted.{mergedCounts, countedUp, counted-is}
 use Rattle.rebuild.specs.Merges.{AllMerged, allMerges, ended, merges-made}
 
 -- ---- what is asked
-
--- a summary and three numbers for each entry
-pub record Scratch (s : Settings) (floats numbers : ℕ) : Type 0 where
-  pub floats-in : entryCap s * slotWidth s ≤ floats
-  pub numbers-in : 3 * entryCap s ≤ numbers
 
 -- the tree without the merged-away entries can be placed again
 pub record Compactable (s : Settings) (n : Counters) (alive : List Bool) (t : Tree) : Type 0 where
@@ -66,19 +55,6 @@ pub record Mergeable (s : Settings) (pairs : ℕ) (ps : List Pair) (t : Tree) : 
   pub tree : Rebuildable s t
   pub pairs-few : pairs ≤ entryCap s
   pub far : Every (FarPair (length (t .entries))) ps
-
--- ---- scratch
-
-module _ (s : Settings) {a b : ℕ} (r : Scratch s a b) where
-  pub pairs-room : Room (entryCap s) a b
-  unfolding slotWidth
-  pairs-room =
-      let w = mul-le-mul-left (entryCap s) (let o : 1 ≤ 1 + 2 * s .dim = omega arith in o) in
-      let i = mul-one (entryCap s) in
-      record { floats-in = omega (arith, r .floats-in); numbers-in = r .numbers-in }
-
-  pub some-room : (k : ℕ) → k ≤ entryCap s → Room k a b
-  some-room k h = let q = pairs-room in record { floats-in = omega (arith, q .floats-in); numbers-in = omega (arith, q .numbers-in) }
 
 -- ---- the tree, and its pairs
 

@@ -1,7 +1,7 @@
 // The rebuild, when entries exceed M: merges until the target, the grown threshold, the merged ones dropped, reinsertion where it is due,
 // and every node made anew.
 ghost use mathlib.Core.Path.{_≡_};
-ghost use mathlib.Core.Bool.{Bool, _||_};
+ghost use mathlib.Core.Bool.{_||_};
 ghost use Prim.Native.Nat.{_+_, _-_, _≤_};
 ghost use lib.Dec.{leb};
 ghost use lib.ListN.{length};
@@ -13,10 +13,10 @@ ghost use Rattle.rules.specs.Rebuild.{target, dropped, rebalanced, mergedBy, me
 ghost use Rattle.laws.specs.Rebuilding.Merge.{Every};
 ghost use Rattle.laws.specs.Rebuilding.Cousins.{FarPair};
 ghost use Rattle.arena.specs.Trees.{Floats, Links};
-ghost use Rattle.scratch.specs.Stored.{pairsIn};
+ghost use Rattle.scratch.specs.Stored.{Scratch, pairsIn};
 ghost use Rattle.scratch.specs.Flags.{aliveIn};
 ghost use Rattle.rebuild.specs.Counted.{mergedCounts, countedUp};
-ghost use Rattle.rebuild.specs.Rebuilding.{Scratch, Compactable, Mergeable, Rebuildable};
+ghost use Rattle.rebuild.specs.Rebuilding.{Compactable, Mergeable, Rebuildable};
 ghost use Rattle.rebuild.specs.Merges.{AllMerged};
 use head::Counters;
 use head::Settings;

@@ -1,7 +1,4 @@
--- The refit: what routing asks of a tree, and the laws of the pouring, of the flags and of the rounds.
-pub mod Routing
-pub mod Pouring
-pub mod Used
+-- The refit: the laws of its rounds.
 pub mod Hollow
 pub mod Rounds
 pub mod Refitting

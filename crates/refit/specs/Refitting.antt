@@ -20,7 +20,7 @@ use Rattle.laws.specs.Refitting.Refitted.{rounds-whole}
 use Rattle.laws.specs.Check.Both.{AtRest}
 use Rattle.laws.specs.ForCode.{Standing, linked-standing}
 use Rattle.refold.specs.Refolding.{Filled}
-use Rattle.refit.specs.Routing.{rest-routable}
+use Rattle.route.specs.Routing.{rest-routable}
 use Rattle.refit.specs.Rounds.{Pourable}
 
 -- a tree between calls; if it has entries, no more rows than a weight can count

@@ -26,8 +26,8 @@ use Rattle.laws.specs.ForCode.{settled-framed, settled-standing}
 use Rattle.merging.specs.Pruning.{LeavesIn, leaves-framed, leaves-same}
 use Rattle.reinsert.specs.Whole.{Reinsertable}
 use Rattle.reinsert.specs.Thinned.{pruned-standing}
-use Rattle.refit.specs.Routing.{Routable}
-use Rattle.refit.specs.Used.{Afresh}
+use Rattle.route.specs.Routing.{Routable}
+use Rattle.pouring.specs.Used.{Afresh}
 
 -- a tree with entries, and some rows for it, no more than a weight can count
 pub record Pourable (s : Settings) (count : ℕ) (t : Tree) : Type 0 where

@@ -1,7 +1,5 @@
 // The refit: every entry made anew from the rows that finally route to it.
-pub mod pouring;
 pub mod rounds;
-pub mod route;
 
 ghost use mathlib.Core.Path.{_≡_};
 ghost use Prim.Native.Nat.{_*_, _≤_};
@@ -10,7 +8,7 @@ ghost use Rattle.rules.specs.Lists.{rowsOf};
 ghost use Rattle.rules.specs.Slices.{treeOf};
 ghost use Rattle.rules.specs.Refit.{refitted};
 ghost use Rattle.arena.specs.Trees.{Floats, Links};
-ghost use Rattle.rebuild.specs.Rebuilding.{Scratch};
+ghost use Rattle.scratch.specs.Stored.{Scratch};
 ghost use Rattle.refit.specs.Refitting.{Refittable};
 use crate::rounds::rounds;
 use head::Counters;

@@ -13,13 +13,13 @@ ghost use Rattle.arena.specs.Trees.{AnyFloats, Floats, Links};
 ghost use Rattle.scratch.specs.Flags.{aliveIn};
 ghost use Rattle.merging.specs.Pruning.{LeavesIn};
 ghost use Rattle.reinsert.specs.Whole.{Reinsertable};
-ghost use Rattle.rebuild.specs.Rebuilding.{Scratch};
+ghost use Rattle.scratch.specs.Stored.{Scratch};
 ghost use Rattle.refit.specs.Rounds.{after, placedAgain, oneRound, Pourable};
-use crate::pouring::reaccumulate;
 use arena::links;
 use head::Counters;
 use head::Settings;
 use merging::dropping::drop_merged;
+use pouring::reaccumulate;
 use reinsert::reinsert;
 
 // Whether node i is a leaf with nothing in it.

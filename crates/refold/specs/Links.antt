@@ -1,7 +1,7 @@
 -- What the walk takes for granted of the links: with some floats they are those of a standing tree.
 use Prim.Native.Nat.{ℕ, zero, suc, _+_, _-_, _≤_, _<_}
 use mathlib.Core.Path.{_≡_, refl, sym, ap, _∙_, subst}
-use mathlib.Core.Bool.{Bool, true, false}
+use mathlib.Core.Bool.{true, false}
 use mathlib.Core.List.{List, [], _∷_}
 use mathlib.Core.Logic.{_⊎_, inl, inr, _≢_}
 use native.Mathlib.Numerals.{add-one}
@@ -19,7 +19,6 @@ use Rattle.laws.specs.Counting.Sums.{occurs-cons, sum-at}
 use Rattle.laws.specs.Invariant.Links.{inner, inner-yes}
 use Rattle.laws.specs.Ownership.Owned.{get-occurs}
 use Rattle.laws.specs.ForCode.{Framed, Standing}
-use Rattle.arena.specs.Trees.{count-nodes}
 use Rattle.refold.specs.Walk.{lastUnder, nodeBefore}
 
 abbrev pub Stands : Settings → Counters → List ℕ → Type 0

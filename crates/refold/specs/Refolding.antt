@@ -1,16 +1,16 @@
 -- One node made anew, and the nodes one after the other from the last back to the root.
-use Prim.Native.Nat.{ℕ, zero, suc, _+_, _*_, _≤_, _<_}
+use Prim.Native.Nat.{ℕ, zero, suc, _≤_, _<_}
 use mathlib.Core.Path.{_≡_, refl, sym, ap, _∙_, subst}
 use mathlib.Core.Bool.{false, cond}
 use mathlib.Core.List.{List, [], _∷_, _++_, map, reverse}
-use mathlib.Core.Option.{Option, none, some, Option·none-ne-some, Option·some-injective}
+use mathlib.Core.Option.{none, some, Option·none-ne-some, Option·some-injective}
 use native.Mathlib.Omega.{arith}
 use lib.ListN.{length, getD, length-reverse}
 use lib.Ieee.{Float}
 use Rattle.feature.specs.declared.Summary.{Summary}
 use Rattle.head.specs.declared.Settings.{Settings}
 use Rattle.head.specs.declared.Counters.{Counters}
-use Rattle.rules.specs.Lists.{changeAt, occurs}
+use Rattle.rules.specs.Lists.{changeAt}
 use Rattle.rules.specs.Tree.{Node, Tree, blankNode, nodeAt, child, withNodes, summed}
 use Rattle.rules.specs.Slices.{nodeIn, treeOf}
 use Rattle.rules.specs.Refold.{foldBalanced, refoldOne, preorder, refoldAll, refolded}

@@ -2,7 +2,7 @@
 use Prim.Native.Nat.{ℕ, zero, suc, _+_, _-_, _≤_, _<_}
 use mathlib.Core.Path.{_≡_, refl, sym, ap, ap₂, _∙_, subst}
 use mathlib.Core.Bool.{Bool, true, false, cond}
-use mathlib.Core.Logic.{_⊎_, inl, inr, _≢_}
+use mathlib.Core.Logic.{_⊎_, inl, inr}
 use mathlib.Core.List.{List, [], _∷_, _++_, map, reverse, reverseAux, append-assoc}
 use mathlib.Core.Option.{some}
 use native.Mathlib.Omega.{arith}
@@ -18,7 +18,7 @@ use Rattle.laws.specs.Ownership.Owned.{get-occurs}
 use Rattle.laws.specs.Invariant.Links.{leaf?}
 use Rattle.laws.specs.Invariant.Beneath.{Frame, kid-below, deep-le}
 use Rattle.laws.specs.Invariant.Collected.{under, under-leaf, under-inner, under-root}
-use Rattle.laws.specs.ForCode.{Framed, Standing}
+use Rattle.laws.specs.ForCode.{Standing}
 
 -- always the last of the list, k steps at most
 unfoldable pub lastUnder : Tree → ℕ → ℕ → ℕ

@@ -14,7 +14,7 @@ use Rattle.head.specs.Limits.{Sized, allowed, allowed-sized}
 use Rattle.head.specs.Sizes.{floatsNeeded, linksNeeded, slotWidth, scratchFloatsNeeded, scratchLinksNeeded, scratch-small}
 use Rattle.rules.specs.Check.{checked, totalOf}
 use Rattle.arena.specs.Trees.{AnyLinks, Floats}
-use Rattle.validate.specs.Lent.{EntriesCount}
+use Rattle.lists.specs.Lent.{EntriesCount}
 use Rattle.validate.specs.Passing.{passing-floats, passing-counts, passing-total}
 use Rattle.binary64.specs.Whole.{most}
 use Rattle.rules.specs.Slices.{treeOf}

@@ -8,7 +8,7 @@ ghost use Rattle.head.specs.Heads.{settingsOf};
 ghost use Rattle.rules.specs.Check.{totalOf};
 ghost use Rattle.rules.specs.Calls.{answerOf, batchShapeRefusal, insertFullRefusal, refitFullRefusal, changeRefusals, rowRefusals, batchRefusals, lentTree};
 ghost use Rattle.arena.specs.Trees.{AnyLinks, Floats};
-ghost use Rattle.validate.specs.Lent.{EntriesCount};
+ghost use Rattle.lists.specs.Lent.{EntriesCount};
 ghost use Rattle.refusals.specs.Lending.{lending, AnyTree};
 use crate::lent;
 use head::Counters;
@@ -16,7 +16,6 @@ use head::Head;
 use head::Settings;
 use head::refusal::Answer;
 use head::refusal::Refusal;
-use validate::adding;
 
 // 4 for a batch of so many numbers.
 pub fn shape(dim: usize, numbers: usize) -> Answer
@@ -35,7 +34,7 @@ fn full(s: Settings, n: Counters, floats: &[f64], rows: usize) -> Answer
     requires { ⌜ Floats s n (length (now floats)) × EntriesCount s n (now floats) × AnyLinks s n (now floats) (λ t. totalOf (t .entries) ≤ most) ⌝ }
     ensures { λ r. ⌜ AnyLinks s n (now (floats .entry)) (λ t. r ≡ answerOf (insertFullRefusal t rows)) ⌝ }
 {
-    let total = adding::total(s, n, floats);
+    let total = weights::total(s, n, floats);
     if rows as u64 > Head::MOST_ROWS - total {
         return Answer::Refused(Refusal::Full);
     }

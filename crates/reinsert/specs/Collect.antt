@@ -19,7 +19,7 @@ use Rattle.laws.specs.Invariant.Collected.{collect-sum, under-inner}
 use Rattle.laws.specs.ForCode.{Standing}
 use Rattle.listed.specs.Standing.{leavesUnder, oneLeaf, nodes-few, under-few}
 use Rattle.stretch.specs.Stretches.{append-none}
-use Rattle.reinsert.specs.Slots.{append-map}
+use Rattle.scratch.specs.Slots.{append-map}
 
 -- the summaries of all entries, from the first leaf to the last
 unfoldable pub allCollected : Tree → List Summary

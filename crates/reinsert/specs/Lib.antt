@@ -1,5 +1,4 @@
 -- Reinsertion: summaries in scratch, nodes that wait on a stack, and what is asked of a tree before each step.
-pub mod Slots
 pub mod Waiting
 pub mod Collect
 pub mod Replace

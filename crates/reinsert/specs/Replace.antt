@@ -22,7 +22,7 @@ use Rattle.laws.specs.Inserting.First.{Ready, place-ready}
 use Rattle.laws.specs.Rebuilding.Reinsert.{Rows, place-entries}
 use Rattle.arena.specs.Numbered.{SlotIn, summaryAt, cut, slot-cut}
 use Rattle.grow.specs.Room.{Placeable}
-use Rattle.reinsert.specs.Slots.{slotsIn, length-slots, slots-back}
+use Rattle.scratch.specs.Slots.{slotsIn, length-slots, slots-back}
 
 -- a tree that is ready for the summaries es, each of some rows, with room for all
 pub record Replaceable (s : Settings) (t : Tree) (es : List Summary) : Type 0 where

@@ -9,7 +9,7 @@ ghost use Rattle.rules.specs.Tree.{entryAt};
 ghost use Rattle.rules.specs.Slices.{treeOf};
 ghost use Rattle.laws.specs.ForCode.{Standing};
 ghost use Rattle.arena.specs.Trees.{AnyLinks, Floats, Links, ChildrenIn};
-ghost use Rattle.reinsert.specs.Slots.{slotsIn};
+ghost use Rattle.scratch.specs.Slots.{slotsIn};
 ghost use Rattle.reinsert.specs.Waiting.{waiting};
 ghost use Rattle.reinsert.specs.Collect.{allCollected};
 use arena::entries;

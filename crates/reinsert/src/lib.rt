@@ -11,7 +11,7 @@ ghost use Rattle.rules.specs.Reinsert.{cleared, replaced, replacedAll, reinsert
 ghost use Rattle.arena.specs.Numbered.{SlotIn, summaryAt};
 ghost use Rattle.arena.specs.Trees.{Floats, Links};
 ghost use Rattle.grow.specs.Room.{Placeable};
-ghost use Rattle.reinsert.specs.Slots.{slotsIn};
+ghost use Rattle.scratch.specs.Slots.{slotsIn};
 ghost use Rattle.reinsert.specs.Replace.{Replaceable};
 ghost use Rattle.reinsert.specs.Whole.{clearedCounts, Reinsertable};
 use crate::collect::collect;

@@ -3,12 +3,12 @@ mod arguments;
 mod messages;
 
 ghost use lib.ListN.{length};
-ghost use Rattle.listing.specs.Runs.{Room, Reading};
+ghost use Rattle.lines.specs.Runs.{Room, Reading};
 use libc::STDERR_FILENO;
 use libc::STDIN_FILENO;
 use libc::STDOUT_FILENO;
-use listing::Run;
-use listing::Stage;
+use lines::Run;
+use lines::Stage;
 use listing::finish::finish;
 use reports::PAGE;
 

@@ -3,8 +3,8 @@ ghost use Prim.Native.Nat.{_≤_};
 ghost use lib.ListN.{length};
 ghost use Rattle.io.specs.Counts.{Counts};
 use libc::STDERR_FILENO;
-use listing::Run;
-use listing::Stage;
+use lines::Run;
+use lines::Stage;
 use reasons::Reason;
 
 // A text behind the first n bytes of a message, as far as there is room; gives the message's length. No message is as long.

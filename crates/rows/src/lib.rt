@@ -1,8 +1,7 @@
 // A batch: rows of dim numbers one after the other in a slice.
 ghost use mathlib.Core.Path.{_≡_};
-ghost use Prim.Native.Nat.{_+_, _*_, _≤_, _<_};
+ghost use Prim.Native.Nat.{_+_, _*_, _≤_};
 ghost use lib.ListN.{length};
-ghost use Rattle.head.specs.Limits.{Sized};
 ghost use Rattle.rows.specs.Rows.{rowOf};
 use head::Settings;
 

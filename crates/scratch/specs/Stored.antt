@@ -2,11 +2,14 @@
 use Prim.Native.Nat.{ℕ, _+_, _*_, _≤_, _<_}
 use mathlib.Core.Path.{_≡_, ap₂, _∙_}
 use mathlib.Core.List.{List}
+use native.Mathlib.Nat.{mul-le-mul-left, mul-one}
 use native.Mathlib.Omega.{arith}
 use lib.ListN.{length, getD, set, length-set}
 use lib.Seq.{getD-set-same, getD-set-other}
 use lib.Ieee.{Float, nan}
 use Rattle.kernels.specs.Channels.{at}
+use Rattle.head.specs.declared.Settings.{Settings}
+use Rattle.head.specs.Sizes.{entryCap, slotWidth}
 use Rattle.rules.specs.declared.Pair.{Pair}
 use Rattle.rules.specs.Lists.{snoc, table, changeAt}
 use Rattle.rules.specs.ListLaws.{length-table}
@@ -31,6 +34,22 @@ pub record Room (n floats numbers : ℕ) : Type 0 where
 -- one of n pairs, whatever else became of the slices
 pub among : {n a b c d : ℕ} (k : ℕ) → Room n a b → c ≡ a → d ≡ b → k < n → Room (k + 1) c d
 among k r e f h = record { floats-in = omega (arith, r .floats-in); numbers-in = omega (arith, r .numbers-in) }
+
+-- a summary and three numbers for each entry
+pub record Scratch (s : Settings) (floats numbers : ℕ) : Type 0 where
+  pub floats-in : entryCap s * slotWidth s ≤ floats
+  pub numbers-in : 3 * entryCap s ≤ numbers
+
+module _ (s : Settings) {a b : ℕ} (r : Scratch s a b) where
+  pub pairs-room : Room (entryCap s) a b
+  unfolding slotWidth
+  pairs-room =
+      let w = mul-le-mul-left (entryCap s) (let o : 1 ≤ 1 + 2 * s .dim = omega arith in o) in
+      let i = mul-one (entryCap s) in
+      record { floats-in = omega (arith, r .floats-in); numbers-in = r .numbers-in }
+
+  pub some-room : (k : ℕ) → k ≤ entryCap s → Room k a b
+  some-room k h = let q = pairs-room in record { floats-in = omega (arith, q .floats-in); numbers-in = omega (arith, q .numbers-in) }
 
 -- both entries fit a word
 unfoldable pub PairFits : Pair → Type 0

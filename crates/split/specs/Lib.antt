@@ -1,7 +1,5 @@
 -- Laws of the split and of its way up.
 pub mod Gather
-pub mod Seeds
-pub mod Halves
 pub mod Parts
 pub mod Crown
 pub mod Rising

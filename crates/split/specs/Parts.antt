@@ -19,8 +19,8 @@ use Rattle.stretch.specs.declared.block.Parent.{Parent}
 use Rattle.stretch.specs.declared.block.Parent.the-variants as P
 use Rattle.stretch.specs.Blocks.{parentOf, ParentFits, nodeOf}
 use Rattle.arena.specs.Trees.{ChildrenIn, onNode, withNode}
-use Rattle.split.specs.declared.halves.Halves.{Halves}
-use Rattle.split.specs.Halves.{Grouped}
+use Rattle.halves.specs.declared.Halves.{Halves}
+use Rattle.halves.specs.Halves.{Grouped}
 
 -- another summary and list for a node
 unfoldable pub refilled : Summary → List ℕ → Node → Node

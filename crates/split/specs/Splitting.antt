@@ -16,10 +16,10 @@ use Rattle.rules.specs.Lists.{keep, flip}
 use Rattle.rules.specs.Tree.{Tree, nodeAt, child}
 use Rattle.rules.specs.Split.{seeds, seedsFrom, sidesBy, stays}
 use Rattle.arena.specs.Trees.{ChildIn, ChildrenIn}
-use Rattle.split.specs.declared.halves.Halves.{Halves}
-use Rattle.split.specs.declared.seeds.Seeds.{Seeds}
-use Rattle.split.specs.Halves.{Parted, Grouped}
-use Rattle.split.specs.Seeds.{seedsOf}
+use Rattle.halves.specs.declared.Halves.{Halves}
+use Rattle.halves.specs.declared.seeds.Seeds.{Seeds}
+use Rattle.halves.specs.Halves.{Parted, Grouped}
+use Rattle.halves.specs.Seeds.{seedsOf}
 use Rattle.split.specs.Parts.{HalvesIn, twos}
 use Rattle.split.specs.Rising.{Splits}
 

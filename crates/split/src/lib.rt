@@ -1,8 +1,7 @@
 // The split of a node that is over its cap, and its way up to a new root.
 pub mod gather;
-pub mod halves;
+pub mod groups;
 pub mod part;
-pub mod seeds;
 
 ghost use mathlib.Core.Path.{_≡_};
 ghost use mathlib.Core.Bool.{false};
@@ -15,7 +14,7 @@ ghost use Rattle.rules.specs.Split.{fitting, split, crowned, settled};
 ghost use Rattle.arena.specs.Trees.{AnyFloats, Floats, Links};
 ghost use Rattle.split.specs.Rising.{Splits, Rising};
 use crate::gather::gather;
-use crate::halves::groups;
+use crate::groups::groups;
 use crate::part::adopt;
 use crate::part::part;
 use arena::links;

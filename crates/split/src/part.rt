@@ -9,10 +9,10 @@ ghost use Rattle.rules.specs.Slices.{treeOf, noParent};
 ghost use Rattle.arena.specs.Trees.{LinksTo, Floats, Links, onNode};
 ghost use Rattle.split.specs.Parts.{refilled, adoptedBy, HalvesIn, halved};
 use crate::gather::gather;
-use crate::halves::Halves;
 use arena::links;
 use arena::nodes;
 use feature::Summary;
+use halves::Halves;
 use head::Counters;
 use head::Settings;
 

@@ -1,7 +1,7 @@
 // The first line: dim, branching, leaf_cap, M, feature, dist, abs, threshold.
 ghost use mathlib.Core.Path.{_≡_};
 ghost use mathlib.Core.List.{[]};
-ghost use Prim.Native.Nat.{_≤_, _<_};
+ghost use Prim.Native.Nat.{_<_};
 ghost use lib.ListN.{length, getD};
 ghost use Rattle.rules.specs.Listing.{fieldsOf, decimal, distanceWord, taken, headFrom, firstLine};
 ghost use Rattle.text.specs.Told.{numberTold, wordTold, few, firstTold};

@@ -20,8 +20,8 @@ use Rattle.validate.specs.Linked.{linked-is}
 use Rattle.validate.specs.Leveled.{level-is}
 use Rattle.validate.specs.Forking.{forking}
 use Rattle.validate.specs.Forked.{forking-is}
-use Rattle.validate.specs.Adding.{summed}
-use Rattle.validate.specs.Weighed.{weighed-is}
+use Rattle.weights.specs.Adding.{summed}
+use Rattle.weights.specs.Weighed.{weighed-is}
 
 unfoldable pub hung : Tree → Bool
 hung t = meeting t && onceEach (length (t .entries)) (leafLists (t .nodes))

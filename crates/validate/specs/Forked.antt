@@ -29,7 +29,7 @@ use Rattle.validate.specs.Widths.{width-is, deep-in}
 use Rattle.validate.specs.Leveled.{hung, kid-deeper}
 use Rattle.validate.specs.Forking.{leafDepth, leafEven, forks, forked, forking}
 use Rattle.validate.specs.Forks.{some-at, some-found, over-more, over-above, greatest-at, first-leaf}
-use Rattle.validate.specs.Loops.{every-same}
+use Rattle.lists.specs.Loops.{every-same}
 
 or-first : (a b c : Bool) → T (a || (b && c)) → b ≡ false → T a
 or-first true b c h e = tt

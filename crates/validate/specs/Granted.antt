@@ -19,7 +19,7 @@ use Rattle.rules.specs.Slices.{stretch, summaryIn, slotAt, treeOf}
 use Rattle.arena.specs.Numbered.{summaryAt}
 use Rattle.arena.specs.Trees.{Floats, Links, summary-at, entry-at, count-nodes, count-entries}
 use Rattle.laws.specs.Check.Taken.{Binary64}
-use Rattle.validate.specs.Lent.{holds}
+use Rattle.lists.specs.Lent.{holds}
 
 module _ (s : Settings) (n : Counters) (fs : List Float) (ls : List ℕ) where
   -- ---- condition 1: the counts are within their caps

@@ -6,8 +6,6 @@ pub mod Meeting
 pub mod Reached
 pub mod Levels
 pub mod Linked
-pub mod Seen
-pub mod Once
 -- condition 6
 pub mod Evenly
 pub mod Widths
@@ -15,15 +13,9 @@ pub mod Leveled
 pub mod Forking
 pub mod Forks
 pub mod Forked
--- condition 7
-pub mod Adding
-pub mod Weighed
 -- the whole
 pub mod Examined
--- what the code's loops and calls lean on
-pub mod Loops
-pub mod Lent
+-- what code leans on
 pub mod Granted
 pub mod Passing
 pub mod Climbed
-pub mod Weighable

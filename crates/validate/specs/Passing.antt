@@ -18,7 +18,7 @@ use Rattle.rules.specs.Check.{sized, rooted, listFits, linked, filled, level, w
 use Rattle.rules.specs.CallLaws.{lowest-passes, passes-total}
 use Rattle.rules.specs.Slices.{treeOf}
 use Rattle.arena.specs.Trees.{AnyLinks, Floats, Links}
-use Rattle.validate.specs.Lent.{EntriesCount}
+use Rattle.lists.specs.Lent.{EntriesCount}
 use Rattle.validate.specs.Granted.{sized-floats, sized-links}
 
 module _ (s : Settings) (n : Counters) (fs : List Float) (ls : List ℕ) (ok : checked s (treeOf s n fs ls) ≡ Passes) where

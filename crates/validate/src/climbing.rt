@@ -10,7 +10,7 @@ ghost use Rattle.rules.specs.Check.{names, ownList};
 ghost use Rattle.stretch.specs.Blocks.{parentOf};
 ghost use Rattle.arena.specs.Trees.{AnyFloats, Links};
 ghost use Rattle.validate.specs.Climbing.{hangsFrom, hangs, stepsUp, depth, meetsRoot, meeting};
-ghost use Rattle.validate.specs.Lent.{Listed, Inner};
+ghost use Rattle.lists.specs.Lent.{Listed, Inner};
 use arena::links;
 use head::Counters;
 use head::Settings;

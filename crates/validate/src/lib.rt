@@ -1,11 +1,6 @@
 // The tree check: document 01's eight conditions in their order, with no mark on any node and no write to what is lent.
-pub mod adding;
 mod climbing;
 mod forking;
-mod lists;
-mod once;
-mod rooted;
-mod seen;
 
 ghost use mathlib.Core.Path.{_≡_};
 ghost use Prim.Native.Nat.{_≤_, _<_};
@@ -16,7 +11,7 @@ ghost use Rattle.rules.specs.Check.{checked};
 ghost use Rattle.rules.specs.Slices.{treeOf};
 ghost use Rattle.arena.specs.Trees.{AnyFloats, Links};
 ghost use Rattle.validate.specs.Examined.{hung};
-ghost use Rattle.validate.specs.Lent.{Listed};
+ghost use Rattle.lists.specs.Lent.{Listed};
 use head::Counters;
 use head::Settings;
 use rules::Verdict;
@@ -29,7 +24,7 @@ fn hung(s: Settings, n: Counters, links: &[u32]) -> bool
     if !crate::climbing::meeting(s, n, links) {
         return false;
     }
-    crate::once::once_each(s, n, links)
+    once::once_each(s, n, links)
 }
 
 // The tree check: that the tree passes, or the lowest condition that fails. It writes nothing.
@@ -37,25 +32,25 @@ pub fn validate(s: Settings, n: Counters, floats: &[f64], links: &[u32]) -> Verd
     requires { ⌜ Sized s × (floatsNeeded s ≤ length (now floats)) × (linksNeeded s ≤ length (now links)) ⌝ }
     ensures { λ r. ⌜ r ≡ checked s (treeOf s n (now (floats .entry)) (now (links .entry))) ⌝ }
 {
-    if !crate::rooted::sized(s, n) {
+    if !lists::rooted::sized(s, n) {
         return Verdict::Fails(1);
     }
-    if !crate::rooted::rooted(s, n, links) {
+    if !lists::rooted::rooted(s, n, links) {
         return Verdict::Fails(2);
     }
-    if !crate::lists::lists_fit(s, n, links) {
+    if !lists::lists_fit(s, n, links) {
         return Verdict::Fails(3);
     }
     if !hung(s, n, links) {
         return Verdict::Fails(4);
     }
-    if !crate::lists::filled(s, n, links) {
+    if !lists::filled(s, n, links) {
         return Verdict::Fails(5);
     }
     if !crate::forking::forking(s, n, links) {
         return Verdict::Fails(6);
     }
-    if !crate::adding::summed(s, n, floats, links) {
+    if !weights::summed(s, n, floats, links) {
         return Verdict::Fails(7);
     }
     if n.merged >= s.max_leaves {

@@ -1,5 +1,4 @@
 -- `insert::insert` meets its contract: the row in the tree, and a rebuild if entries exceed M.
-use Prim.Native.Nat.{_-_}
 use mathlib.Core.Path.{_≡_, sym, ap, _∙_}
 use borrow.Author.Needs.{needs}
 use lib.ListN.{length}

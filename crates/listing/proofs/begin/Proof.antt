@@ -1,6 +1,6 @@
 -- `listing::begin` meets its contract: nothing is read.
 use borrow.Author.Needs.{needs}
-use Rattle.listing.specs.Runs.{begun}
+use Rattle.lines.specs.Runs.{begun}
 use Rattle.listing.proofs.begin.Statement.{statement}
 use Rattle.listing.proofs.begin.Tie as tie
 

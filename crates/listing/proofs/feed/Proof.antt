@@ -4,7 +4,7 @@ use mathlib.Core.Path.{_≡_, refl, _∙_}
 use native.Mathlib.Omega.{arith}
 use borrow.Author.Needs.{needs}
 use lib.ListN.{length, take}
-use Rattle.listing.specs.Runs.{reads-none, reads-on, reads-all, rest-long, Reading, Reads, printed}
+use Rattle.lines.specs.Runs.{reads-none, reads-on, reads-all, rest-long, Reading, Reads, printed}
 use Rattle.listing.proofs.feed.Statement.{statement}
 use Rattle.listing.proofs.feed.Tie as tie
 

@@ -1,10 +1,11 @@
 -- `rebuild::compact` meets its contract: the merged-away entries dropped, and the others placed again where it is due.
-use Prim.Native.Nat.{zero, _-_}
+use Prim.Native.Nat.{zero}
 use mathlib.Core.Path.{sym, ap, _∙_, subst}
 use native.Mathlib.Omega.{arith}
 use borrow.Author.Needs.{needs}
 use lib.ListN.{drop, set}
-use Rattle.rebuild.specs.Counted.{zero-same, floats-as, links-as, floats-kept, links-kept, merged-zero, placed-again, left-placed}
+use Rattle.rebuild.specs.Counted.{zero-same, floats-as, links-as, merged-zero, placed-again, left-placed}
+use Rattle.merging.specs.Numbering.{floats-kept, links-kept}
 use Rattle.reinsert.specs.Whole.{Reinsertable}
 use Rattle.rules.specs.Tree.{withMerged}
 use Rattle.rebuild.proofs.compact.Statement.{statement}

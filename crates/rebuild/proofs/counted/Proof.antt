@@ -1,5 +1,4 @@
 -- `rebuild::counted` meets its contract: one more, up to the top value.
-use Prim.Native.Nat.{_-_}
 use mathlib.Core.Path.{_∙_}
 use borrow.Author.Needs.{needs}
 use Rattle.rebuild.specs.Counted.{countedUp}

@@ -1,5 +1,4 @@
 -- `rebuild::due` meets its contract: cousins, or the total at M.
-use Prim.Native.Nat.{_-_}
 use borrow.Author.Needs.{needs}
 use Rattle.rebuild.proofs.due.Statement.{statement}
 use Rattle.rebuild.proofs.due.Tie as tie

@@ -1,8 +1,8 @@
 -- `rebuild::merge` meets its contract: siblings are merged, or only if there are none, cousins.
-use Prim.Native.Nat.{_-_}
 use mathlib.Core.Path.{_∙_}
 use borrow.Author.Needs.{needs}
-use Rattle.rebuild.specs.Rebuilding.{tree-framed, pairs-room, siblings-far, cousins-all, by-siblings, by-cousins}
+use Rattle.rebuild.specs.Rebuilding.{tree-framed, siblings-far, cousins-all, by-siblings, by-cousins}
+use Rattle.scratch.specs.Stored.{pairs-room}
 use Rattle.rules.specs.Tree.{Tree}
 use Rattle.rules.specs.Slices.{treeOf}
 use Rattle.rebuild.proofs.merge.Statement.{statement}

@@ -1,5 +1,4 @@
 -- `rebuild::merge_by` meets its contract: merged until the target, and compacted if anything was.
-use Prim.Native.Nat.{_-_}
 use mathlib.Core.Path.{_∙_}
 use native.Mathlib.Omega.{arith}
 use borrow.Author.Needs.{needs}

@@ -1,8 +1,7 @@
 -- `rebuild::merge_cheapest` meets its contract: sorted by cost, all entries there, and merged until the target.
-use Prim.Native.Nat.{_-_}
 use native.Mathlib.Omega.{arith}
 use borrow.Author.Needs.{needs}
-use Rattle.rebuild.specs.Rebuilding.{some-room}
+use Rattle.scratch.specs.Stored.{some-room}
 use Rattle.rebuild.specs.Merges.{sorted-below, all-merged}
 use Rattle.rebuild.proofs.merge_cheapest.Statement.{statement}
 use Rattle.rebuild.proofs.merge_cheapest.Tie as tie

@@ -1,5 +1,4 @@
 -- `rebuild::merged` meets its contract: the threshold grown, and the total with the merges.
-use Prim.Native.Nat.{_-_}
 use mathlib.Core.Path.{_∙_}
 use borrow.Author.Needs.{needs}
 use Rattle.rebuild.specs.Counted.{mergedCounts}

@@ -1,5 +1,4 @@
 -- `rebuild::rebuild` meets its contract: merged, every node made anew, and counted.
-use Prim.Native.Nat.{_-_}
 use mathlib.Core.Path.{ap, _∙_}
 use borrow.Author.Needs.{needs}
 use Rattle.rebuild.specs.Rebuilding.{merged-standing, rebuilt-is}

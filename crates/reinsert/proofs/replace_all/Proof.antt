@@ -9,7 +9,7 @@ use Rattle.rules.specs.Tree.{Tree}
 use Rattle.rules.specs.Slices.{treeOf}
 use Rattle.rules.specs.Reinsert.{replacedAll}
 use Rattle.arena.specs.Trees.{Floats, Links}
-use Rattle.reinsert.specs.Slots.{slotsIn, slot-there}
+use Rattle.scratch.specs.Slots.{slotsIn, slot-there}
 use Rattle.reinsert.specs.Replace.{Replaceable, left-few, last-placeable, replace-on, replace-turn, replace-end}
 use Rattle.reinsert.proofs.replace_all.Statement.{statement}
 use Rattle.reinsert.proofs.replace_all.Tie as tie

@@ -1,7 +1,7 @@
 -- `rowlist::list` meets its contract: the slices have the room that is asked for.
 use borrow.Author.Needs.{needs}
 use lib.ListN.{length-replicate}
-use Rattle.listing.specs.Runs.{Room}
+use Rattle.lines.specs.Runs.{Room}
 use Rattle.rowlist.proofs.list.Statement.{statement}
 use Rattle.rowlist.proofs.list.Tie as tie
 

@@ -4,7 +4,7 @@ use mathlib.Core.Path.{_≡_, refl, _∙_}
 use native.Mathlib.Omega.{arith}
 use borrow.Author.Needs.{needs}
 use lib.ListN.{length}
-use Rattle.listing.specs.Runs.{Reading}
+use Rattle.lines.specs.Runs.{Reading}
 use Rattle.rowlist.proofs.read.Statement.{statement}
 use Rattle.rowlist.proofs.read.Tie as tie
 

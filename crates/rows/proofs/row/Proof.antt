@@ -1,5 +1,4 @@
 -- `rows::row` meets its contract: the part cut out is the row.
-use Prim.Native.Nat.{_-_}
 use borrow.Author.Needs.{needs}
 use Rattle.rows.specs.Rows.{row-cut}
 use Rattle.rows.proofs.row.Statement.{statement}

@@ -10,7 +10,7 @@ use Rattle.arena.specs.Trees.{Floats, Links}
 use Prim.Native.Nat.{ℕ, suc, _≤_, _<_}
 use mathlib.Core.List.{[]}
 use Rattle.validate.specs.Examined.{conditions, examined, checked-is, fails, holds}
-use Rattle.validate.specs.Lent.{Listed}
+use Rattle.lists.specs.Lent.{Listed}
 use Rattle.validate.specs.Granted.{sized-links, sized-floats, sized-few, rooted-in, lent-binary64}
 use Rattle.validate.proofs.validate.Statement.{statement}
 use Rattle.validate.proofs.validate.Tie as tie

@@ -8,7 +8,7 @@ use Rattle.head.specs.declared.refusal.Answer.the-variants.{Accepted}
 use Rattle.head.specs.Heads.{settingsOf}
 use Rattle.head.specs.Limits.{allowed-sized}
 use Rattle.rules.specs.Calls.{Lent, answerOf, batchInserted}
-use Rattle.fronts.specs.Worked.{worked}
+use Rattle.work.specs.Worked.{worked}
 use Rattle.cftree.proofs.change.insert_batch.Statement.{statement}
 use Rattle.cftree.proofs.change.insert_batch.Tie as tie
 

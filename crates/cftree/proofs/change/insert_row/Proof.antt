@@ -3,7 +3,8 @@ use mathlib.Core.Path.{_≡_, sym, ap, _∙_}
 use native.Mathlib.Omega.{arith}
 use borrow.Author.Needs.{needs}
 use Rattle.cftree.specs.Outcomes.{refused-as-lent, done-as-ruled}
-use Rattle.cftree.specs.Accepted.{ofRow, row-accepted, one-row, insertable}
+use Rattle.cftree.specs.Accepted.{ofRow, row-accepted, insertable}
+use Rattle.work.specs.Worked.{one-row}
 use Rattle.refusals.specs.Lending.{lending}
 use Rattle.head.specs.declared.refusal.Answer.the-variants.{Accepted}
 use Rattle.head.specs.Heads.{settingsOf}

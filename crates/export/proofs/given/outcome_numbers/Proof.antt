@@ -1,6 +1,6 @@
 -- `export::given::outcome_numbers` meets its contract: the head's numbers and the answer's.
 use borrow.Author.Needs.{needs}
-use Rattle.export.specs.Numbers.{outcomeNumbers}
+use Rattle.export.specs.Given.{outcomeNumbers}
 use Rattle.export.proofs.given.outcome_numbers.Statement.{statement}
 use Rattle.export.proofs.given.outcome_numbers.Tie as tie
 

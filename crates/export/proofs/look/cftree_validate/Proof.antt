@@ -1,7 +1,7 @@
 -- `export::look::cftree_validate` meets its contract: the answer of the call over values, in numbers.
 use mathlib.Core.Path.{sym, ap, _∙_}
 use borrow.Author.Needs.{needs}
-use Rattle.export.specs.Numbers.{answerNumbers}
+use Rattle.boundary.specs.Numbers.{answerNumbers}
 use Rattle.export.proofs.look.cftree_validate.Statement.{statement}
 use Rattle.export.proofs.look.cftree_validate.Tie as tie
 

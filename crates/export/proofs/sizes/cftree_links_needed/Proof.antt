@@ -4,7 +4,6 @@ use mathlib.Core.Bool.{true}
 use borrow.Author.Needs.{needs}
 use borrow.Author.Tests.{not-true, not-false}
 use Rattle.head.specs.Limits.{allowed, allowed-sized}
-use Rattle.export.specs.Numbers.{headOf}
 use Rattle.export.specs.Given.{none-needed, some-needed}
 use Rattle.export.proofs.sizes.cftree_links_needed.Statement.{statement}
 use Rattle.export.proofs.sizes.cftree_links_needed.Tie as tie

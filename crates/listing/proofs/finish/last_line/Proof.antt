@@ -1,7 +1,7 @@
 -- `listing::finish::last_line` meets its contract: an empty piece is no line, and any other is one.
 use native.Mathlib.Omega.{arith}
 use borrow.Author.Needs.{needs}
-use Rattle.listing.specs.Lines.{end-read, no-end}
+use Rattle.lines.specs.Lines.{end-read, no-end}
 use Rattle.listing.proofs.finish.last_line.Statement.{statement}
 use Rattle.listing.proofs.finish.last_line.Tie as tie
 

@@ -2,7 +2,7 @@
 use native.Mathlib.Omega.{arith}
 use borrow.Author.Needs.{needs}
 use Rattle.reports.specs.Lines.{wrote-is}
-use Rattle.listing.specs.Rows.{grown-total}
+use Rattle.lines.specs.Rows.{grown-total}
 use Rattle.listing.specs.Finished.{reportable, rows-stand, rows-end, first-end, bad-end}
 use Rattle.listing.proofs.finish.print.Statement.{statement}
 use Rattle.listing.proofs.finish.print.Tie as tie

@@ -1,5 +1,5 @@
 -- `pairs::cousins::push_cousins` meets its contract: a node over leaves alone makes pairs, any other none.
-use Prim.Native.Nat.{_+_, _-_, _≤_}
+use Prim.Native.Nat.{_+_, _≤_}
 use mathlib.Core.Path.{_≡_, sym, ap, _∙_, subst}
 use mathlib.Core.Bool.{true, false}
 use mathlib.Core.List.{_++_}

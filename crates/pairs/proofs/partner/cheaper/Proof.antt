@@ -1,5 +1,4 @@
 -- `pairs::partner::cheaper` meets its contract: by cases of the partner so far.
-use Prim.Native.Nat.{_-_}
 use borrow.Author.Needs.{needs}
 use Rattle.pairs.specs.Partners.{cheaper-first, cheaper-yes, cheaper-no}
 use Rattle.pairs.proofs.partner.cheaper.Statement.{statement}

@@ -1,5 +1,4 @@
 -- `pairs::partner::push` meets its contract: a pair goes behind the others, or none.
-use Prim.Native.Nat.{_-_}
 use native.Mathlib.Omega.{arith}
 use borrow.Author.Needs.{needs}
 use Rattle.scratch.specs.Stored.{PairFits}

@@ -1,5 +1,5 @@
 -- `pairs::siblings::push_siblings` meets its contract: a leaf with two entries makes pairs, any other node none.
-use Prim.Native.Nat.{_+_, _-_, _≤_, _<_}
+use Prim.Native.Nat.{_+_, _≤_, _<_}
 use mathlib.Core.Path.{_≡_, sym, ap, _∙_, subst}
 use mathlib.Core.Bool.{true}
 use mathlib.Core.List.{_++_}

@@ -1,5 +1,5 @@
 -- `pairs::sorting::sort` meets its contract: the pairs from the last to the first go in.
-use Prim.Native.Nat.{_-_, _≤_}
+use Prim.Native.Nat.{_≤_}
 use mathlib.Core.Path.{_≡_, refl, ap, _∙_}
 use native.Mathlib.Omega.{arith}
 use borrow.Author.Needs.{needs}

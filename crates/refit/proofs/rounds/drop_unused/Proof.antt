@@ -2,7 +2,7 @@
 use mathlib.Core.Path.{sym, subst}
 use native.Mathlib.Omega.{arith}
 use borrow.Author.Needs.{needs}
-use Rattle.rebuild.specs.Counted.{floats-kept, links-kept}
+use Rattle.merging.specs.Numbering.{floats-kept, links-kept}
 use Rattle.reinsert.specs.Whole.{Reinsertable}
 use Rattle.refit.specs.Rounds.{stays, placed}
 use Rattle.refit.proofs.rounds.drop_unused.Statement.{statement}

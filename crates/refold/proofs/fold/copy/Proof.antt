@@ -1,5 +1,4 @@
 -- `refold::fold::copy` meets its contract: stored in its slot.
-use Prim.Native.Nat.{_-_}
 use mathlib.Core.Path.{sym, subst}
 use mathlib.Core.List.{[]}
 use borrow.Author.Needs.{needs}

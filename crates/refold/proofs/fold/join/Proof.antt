@@ -1,5 +1,4 @@
 -- `refold::fold::join` meets its contract: what was read is merged into the other slot.
-use Prim.Native.Nat.{_-_}
 use mathlib.Core.Path.{sym, ap, subst}
 use borrow.Author.Needs.{needs}
 use Rattle.feature.specs.Shape.{Shaped}

@@ -1,5 +1,5 @@
 -- `refold::fold::refold_node` meets its contract: the fold of its list goes to its place.
-use Prim.Native.Nat.{_-_, _≤_, _<_}
+use Prim.Native.Nat.{_≤_, _<_}
 use mathlib.Core.Path.{sym, ap₂, _∙_, subst}
 use borrow.Author.Needs.{needs}
 use lib.ListN.{length}

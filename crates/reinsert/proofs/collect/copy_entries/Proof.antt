@@ -12,7 +12,7 @@ use Rattle.rules.specs.Slices.{treeOf}
 use Rattle.rules.specs.Tree.{entryAt}
 use Rattle.arena.specs.Trees.{AnyLinks, caps-small, entry-shaped}
 use Rattle.listed.specs.Sure.{entry-listed}
-use Rattle.reinsert.specs.Slots.{slotsIn, slot-there, copy-start, copy-turn, copy-end}
+use Rattle.scratch.specs.Slots.{slotsIn, slot-there, copy-start, copy-turn, copy-end}
 use Rattle.reinsert.proofs.collect.copy_entries.Statement.{statement}
 use Rattle.reinsert.proofs.collect.copy_entries.Tie as tie
 

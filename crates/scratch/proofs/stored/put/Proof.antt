@@ -1,5 +1,4 @@
 -- `scratch::stored::put` meets its contract: written to its three places.
-use Prim.Native.Nat.{_-_}
 use native.Mathlib.Omega.{arith}
 use borrow.Author.Needs.{needs}
 use lib.ListN.{length-set}

@@ -7,7 +7,7 @@ use borrow.Author.Tests.{not-true, not-false}
 use Rattle.rules.specs.Check.{ownList}
 use Rattle.arena.specs.Trees.{AnyFloats, count-nodes}
 use Rattle.validate.specs.Climbing.{hangs, meetsRoot, meeting}
-use Rattle.validate.specs.Loops.{Passed, passed-none, passed-more, passed-all, fails-at}
+use Rattle.lists.specs.Loops.{Passed, passed-none, passed-more, passed-all, fails-at}
 use Rattle.validate.proofs.climbing.meeting.Statement.{statement}
 use Rattle.validate.proofs.climbing.meeting.Tie as tie
 

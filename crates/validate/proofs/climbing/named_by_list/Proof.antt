@@ -9,8 +9,8 @@ use Rattle.rules.specs.Tree.{nodeAt}
 use Rattle.rules.specs.Slices.{treeOf}
 use Rattle.rules.specs.Check.{names}
 use Rattle.arena.specs.Trees.{AnyFloats}
-use Rattle.validate.specs.Loops.{Passed, passed-none, passed-more, passed-all, fails-at, placed}
-use Rattle.validate.specs.Lent.{inner-in}
+use Rattle.lists.specs.Loops.{Passed, passed-none, passed-more, passed-all, fails-at, placed}
+use Rattle.lists.specs.Lent.{inner-in}
 use mathlib.Core.List.{[]}
 use Rattle.validate.proofs.climbing.named_by_list.Statement.{statement}
 use Rattle.validate.proofs.climbing.named_by_list.Tie as tie

@@ -10,7 +10,7 @@ use Rattle.rules.specs.Slices.{treeOf}
 use Rattle.laws.specs.Counting.Count.{is}
 use Rattle.laws.specs.Counting.Sums.{sumTo}
 use Rattle.arena.specs.Trees.{AnyFloats}
-use Rattle.validate.specs.Loops.{sum-none, sum-end, count-more, count-same, occurs-places}
+use Rattle.lists.specs.Loops.{sum-none, sum-end, count-more, count-same, occurs-places}
 use Rattle.validate.proofs.climbing.occurs.Statement.{statement}
 use Rattle.validate.proofs.climbing.occurs.Tie as tie
 

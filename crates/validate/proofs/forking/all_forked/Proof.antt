@@ -5,7 +5,7 @@ use borrow.Author.Needs.{needs}
 use borrow.Author.Tests.{not-true, not-false}
 use Rattle.arena.specs.Trees.{AnyFloats}
 use Rattle.validate.specs.Forking.{forked}
-use Rattle.validate.specs.Loops.{Passed, passed-none, passed-more, passed-all, fails-at}
+use Rattle.lists.specs.Loops.{Passed, passed-none, passed-more, passed-all, fails-at}
 use Rattle.validate.proofs.forking.all_forked.Statement.{statement}
 use Rattle.validate.proofs.forking.all_forked.Tie as tie
 

@@ -6,7 +6,7 @@ use borrow.Author.Needs.{needs}
 use Rattle.arena.specs.Trees.{AnyFloats, count-nodes}
 use Rattle.validate.specs.Forking.{forks, forked}
 use Rattle.validate.specs.Forks.{some-at, some-none}
-use Rattle.validate.specs.Loops.{Failed, failed-none, failed-more}
+use Rattle.lists.specs.Loops.{Failed, failed-none, failed-more}
 use Rattle.validate.proofs.forking.forked.Statement.{statement}
 use Rattle.validate.proofs.forking.forked.Tie as tie
 

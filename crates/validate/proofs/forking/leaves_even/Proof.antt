@@ -5,7 +5,7 @@ use borrow.Author.Needs.{needs}
 use borrow.Author.Tests.{not-true, not-false}
 use Rattle.arena.specs.Trees.{AnyFloats, count-nodes}
 use Rattle.validate.specs.Forking.{leafEven}
-use Rattle.validate.specs.Loops.{Passed, passed-none, passed-more, passed-all, fails-at}
+use Rattle.lists.specs.Loops.{Passed, passed-none, passed-more, passed-all, fails-at}
 use Rattle.validate.proofs.forking.leaves_even.Statement.{statement}
 use Rattle.validate.proofs.forking.leaves_even.Tie as tie
 

@@ -1,0 +1,205 @@
+-- A row's line: only a full tree refuses a row of dim floats, and any other goes on as the rules say.
+use Prim.Native.Nat.{ℕ, suc, _+_, _-_, _≤_, _<_}
+use mathlib.Core.List.{List, [], _∷_, _++_}
+use mathlib.Core.Option.{Option, none, some}
+use mathlib.Core.Path.{_≡_, refl, sym, ap, subst, _∙_}
+use native.Mathlib.Nat.{sub-zero}
+use native.Mathlib.Omega.{arith}
+use native.Mathlib.Numerals.{add-one}
+use borrow.Author.Tests.{le-leb, lt-leb, eq-eqb}
+use lib.ListN.{length, take, length-append}
+use lib.Ieee.{Float}
+use Rattle.binary64.specs.Whole.{most}
+use Rattle.head.specs.declared.Head.{Head}
+use Rattle.head.specs.declared.Settings.{Settings}
+use Rattle.head.specs.Heads.{settingsOf, withCounters}
+use Rattle.head.specs.Limits.{Sized}
+use Rattle.rules.specs.Tree.{Tree}
+use Rattle.rules.specs.Rebuild.{inserted, insertedAll}
+use Rattle.rules.specs.Check.{checked, totalOf}
+use Rattle.rules.specs.Slices.{countersOf}
+use Rattle.rules.specs.Calls.{Lent, Left, unless, rowRefusals, lentTree, changed, rowShapeRefusal, insertFullRefusal}
+use Rattle.rules.specs.CallLaws.{Ready}
+use Rattle.rules.specs.Cleared.{changed-tree}
+use Rattle.rules.specs.Listing.{badLine, rowIn, lineIn, rowsListed}
+use Rattle.rules.specs.declared.Verdict.the-variants.{Passes}
+use Rattle.head.specs.declared.refusal.Refusal.the-variants.{Full}
+use Rattle.rules.specs.Lists.{rowsOf}
+use Rattle.laws.specs.Demand.{ownersAll}
+use Rattle.laws.specs.Runs.Runs as Past
+use Rattle.work.specs.declared.Work.the-variants.{Insert}
+use Rattle.work.specs.Worked.{worked, Workable, one-row}
+use Rattle.laws.specs.Shapes.{ShapedTree, batch-shaped}
+use Rattle.laws.specs.Check.Both.{AtRest, resting-passes}
+use Rattle.laws.specs.Runs.Calls.{row-rests}
+use Rattle.laws.specs.Runs.Fitting.{resting-fits}
+use Rattle.laws.specs.Runs.Threshold.{inserted-fine}
+use Rattle.laws.specs.Runs.Runs.{rest-total, run-owning}
+use Rattle.laws.specs.Runs.OneCall.{Public, sizes-of, next}
+use Rattle.text.specs.declared.RowLine.{RowLine}
+use Rattle.text.specs.declared.RowLine.the-variants.{Row, Malformed}
+use Rattle.text.specs.Rows.{RowRead, floatsIn, row-listed, malformed-listed}
+use Rattle.reasons.specs.declared.Reason.{Reason}
+use Rattle.lines.specs.declared.Run.{Run}
+use Rattle.lines.specs.declared.Stage.the-variants as Stages
+use Rattle.lines.specs.Runs.{listedAt, listed, Room, Grown, Stands, LineRead, badRun, bad-read}
+use Rattle.lines.specs.Lines.{row-none}
+use Rattle.lines.specs.Heads.{floats-enough, links-enough, scratch-enough, numbers-enough}
+
+-- ---- what a grown tree gives
+
+module _ {n : ℕ} {h : Head} {fs : List Float} {ks : List ℕ} (g : Grown n h fs ks) where
+  pub grown-rests : AtRest (settingsOf h) (lentTree h fs ks) (length (g .rows))
+  grown-rests = run-owning (sizes-of (g .public)) (g .public .run) .rests
+
+  pub grown-passes : checked (settingsOf h) (lentTree h fs ks) ≡ Passes
+  grown-passes = resting-passes (settingsOf h) (lentTree h fs ks) (length (g .rows)) grown-rests
+
+  pub grown-total : totalOf (lentTree h fs ks .entries) + 2 ≡ n
+  grown-total = let e = rest-total grown-rests in let k = g .number in omega arith
+
+  pub grown-few : settingsOf h .«max_leaves» ≤ 24
+  unfolding settingsOf
+  grown-few = g .few
+
+-- ---- one row
+
+-- the lines l that say the row x
+abbrev pub Says : Settings → Tree → List Float → List ℕ → Type 0
+Says s t x l = lineIn s t l ≡ rowIn s t x (rowRefusals s t x)
+
+module _ (run : Run) (l : List ℕ) (fs : List Float) (ks : List ℕ) (before after : List Float) {a : RowLine}
+    (w : RowRead (run .head .dim) (floatsIn l) before after a) where
+  pub row-says : a ≡ Row → Says (settingsOf (run .head)) (lentTree (run .head) fs ks) (take (run .head .dim - 0) after) l
+  unfolding settingsOf
+  row-says e =
+      let s = settingsOf (run .head) in
+      let t = lentTree (run .head) fs ks in
+      subst (λ n. Says s t (take n after) l) (sym (sub-zero (run .head .dim)))
+      (row-listed s t l before after (subst (RowRead (run .head .dim) (floatsIn l) before after) e w))
+
+  pub malformed-read : a ≡ Malformed → {q : Run} (why : Reason) → q ≡ badRun why run → LineRead (listed Stages.Rows run fs ks) l q fs ks
+  unfolding listed listedAt settingsOf
+  malformed-read e why b =
+      let s = settingsOf (run .head) in
+      let t = lentTree (run .head) fs ks in
+      bad-read run why b l fs ks (listed Stages.Rows run fs ks) (λ ls.
+      row-none s (run .number) t l ls (malformed-listed s t l before after (subst (RowRead (run .head .dim) (floatsIn l) before after) e w)))
+
+module _ (run : Run) (l : Lent) (g : Grown (run .number) (run .head) (l .floats) (l .links)) {lines : ℕ}
+    (room : Room lines (length (l .floats)) (length (l .links)) (length (l .scratchFloats)) (length (l .scratchLinks))) (x : List Float) where
+  abbrev h : Head
+  h = run .head
+
+  abbrev s : Settings
+  s = settingsOf h
+
+  abbrev t : Tree
+  t = lentTree h (l .floats) (l .links)
+
+  abbrev u : Tree
+  u = inserted s x t
+
+  sized : Sized s
+  sized = sizes-of (g .public)
+
+  -- what the call asks for
+  pub ready : Ready h l
+  ready =
+      let few = grown-few g in
+      let a = floats-enough s sized few in
+      let b = links-enough s sized few in
+      let c = scratch-enough s sized few in
+      let d = numbers-enough s sized few in
+      record {
+        allows = g .public .allows;
+        floats-room = (let p = room .floats-room in omega arith);
+        links-room = (let p = room .links-room in omega arith);
+        scratch-floats-room = (let p = room .scratch-room in omega arith);
+        scratch-links-room = (let p = room .numbers-room in omega arith);
+        passes = grown-passes g;
+      }
+
+  pub workable : run .number ≤ most + 1 → Workable Insert s 1 t
+  unfolding Workable
+  workable k = record { rows = length (g .rows); rests = grown-rests g; room = (let n = g .number in omega arith) }
+
+  module _ (e : length x ≡ run .head .dim) where
+    full-wrong : most + 1 < run .number → rowRefusals s t x ≡ Full ∷ []
+    unfolding rowRefusals rowShapeRefusal insertFullRefusal unless settingsOf
+    full-wrong k = let n = grown-total g in rw (eq-eqb (length x) (run .head .dim) e, lt-leb (totalOf (t .entries) + 1) most (omega arith))
+
+    none-wrong : run .number ≤ most + 1 → rowRefusals s t x ≡ []
+    unfolding rowRefusals rowShapeRefusal insertFullRefusal unless settingsOf
+    none-wrong k = let n = grown-total g in rw (eq-eqb (length x) (run .head .dim) e, le-leb (totalOf (t .entries) + 1) most (omega arith))
+
+    -- a full tree refuses the row: the line is bad
+    pub full-read : most + 1 < run .number → {q : Run} (why : Reason) → q ≡ badRun why run → (line : List ℕ) → Says s t x line
+        → (fs : List Float) (ks : List ℕ) → LineRead (listed Stages.Rows run (l .floats) (l .links)) line q fs ks
+    unfolding listed listedAt rowIn
+    full-read k why b line y fs ks =
+        bad-read run why b line fs ks (listed Stages.Rows run (l .floats) (l .links))
+        (λ ls. row-none s (run .number) t line ls (y ∙ ap (rowIn s t x) (full-wrong k)))
+
+    -- any other takes it: the rules' tree is in the slices
+    module _ (k : run .number ≤ most + 1) (o : Left) (d : o ≡ changed h l (worked Insert s (rowsOf 1 (s .dim) x) t)) where
+      as-changed : o ≡ changed h l u
+      as-changed = d ∙ ap (changed h l) (one-row s x t (unfold settingsOf in e))
+
+      shaped-next : ShapedTree s u
+      unfolding insertedAll
+      shaped-next = batch-shaped s (x ∷ []) t (g .public .shaped)
+
+      run-next : Past.Run s (g .public .threshold) u (g .rows ++ (x ∷ [])) (ownersAll s (x ∷ []) t (g .owners))
+      unfolding insertedAll
+      run-next = Past.insert {t = t} (x ∷ []) (let n = grown-total g in omega arith) (g .public .run)
+
+      public-next : Public (changed h l u .head) (changed h l u .lent .floats) (changed h l u .lent .links) (g .rows ++ (x ∷ []))
+          (ownersAll s (x ∷ []) t (g .owners))
+      public-next = next h l (g .public) u (g .rows ++ (x ∷ [])) (ownersAll s (x ∷ []) t (g .owners)) (inserted-fine s x t) run-next shaped-next
+
+      tree-is : lentTree (o .head) (o .lent .floats) (o .lent .links) ≡ u
+      tree-is =
+          let rests = row-rests sized x t (length (g .rows)) (grown-rests g) (let n = g .number in omega arith) in
+          ap (λ (o : Left). lentTree (o .head) (o .lent .floats) (o .lent .links)) as-changed
+          ∙ changed-tree h l u sized (resting-fits sized u (suc (length (g .rows))) rests shaped-next)
+
+      head-is : o .head ≡ withCounters h (countersOf u)
+      head-is = ap (λ (o : Left). o .head) as-changed ∙ (unfold changed in refl)
+
+      settings-are : settingsOf (o .head) ≡ s
+      settings-are = ap settingsOf head-is ∙ (unfold settingsOf withCounters in refl)
+
+      grown-next : Grown (run .number + 1) (o .head) (o .lent .floats) (o .lent .links)
+      grown-next = record {
+        rows = g .rows ++ (x ∷ []);
+        owners = ownersAll s (x ∷ []) t (g .owners);
+        public = subst (λ (o : Left). Public (o .head) (o .lent .floats) (o .lent .links) (g .rows ++ (x ∷ [])) (ownersAll s (x ∷ []) t (g .owners)))
+            (sym as-changed) public-next;
+        number = (let j = length-append (g .rows) (x ∷ []) in let n = g .number in omega arith);
+        few = subst (λ (q : Head). q .«max_leaves» ≤ 24) (sym head-is) (unfold withCounters in g .few);
+      }
+
+      row-some : (line : List ℕ) (ls : List (List ℕ)) → Says s t x line → rowsListed s (run .number) (line ∷ ls) t ≡ rowsListed s (suc (run .number)) ls u
+      unfolding rowsListed rowIn
+      row-some line ls y =
+          let f : Option Tree → List ℕ = λ o. elim o [ none ↦ badLine (run .number) | some u ↦ rowsListed s (suc (run .number)) ls u ] in
+          ap f (y ∙ ap (rowIn s t x) (none-wrong k))
+
+      pub row-read : (line : List ℕ) → Says s t x line
+          → LineRead (listed Stages.Rows run (l .floats) (l .links)) line (record { head = o .head; stage = Stages.Rows; number = run .number + 1; long = 0 })
+          (o .lent .floats) (o .lent .links)
+      unfolding Stands listed listedAt
+      row-read line y = record {
+        none-left = refl;
+        stands = grown-next;
+        reads = (λ ls.
+            let tree = lentTree (o .head) (o .lent .floats) (o .lent .links) in
+            ap (λ (q : Settings). rowsListed q (run .number + 1) ls tree) settings-are ∙ ap (rowsListed s (run .number + 1) ls) tree-is
+            ∙ ap (λ n. rowsListed s n ls u) (add-one (run .number)) ∙ sym (row-some line ls y));
+      }
+
+-- whatever line says the row x, it is read
+pub record Inserts (run : Run) (fs : List Float) (ks : List ℕ) (x : List Float) (r : Run) (gs : List Float) (js : List ℕ) : Type 0 where
+  pub reads : (line : List ℕ) → Says (settingsOf (run .head)) (lentTree (run .head) fs ks) x line
+      → LineRead (listed Stages.Rows run fs ks) line r gs js

@@ -1,0 +1,2 @@
+-- What routing asks of a tree.
+pub mod Routing

@@ -23,12 +23,13 @@ use Rattle.rules.specs.Rebuild.{Merging, renumber, dropped, withMerges, rebalan
 use Rattle.rules.specs.Refit.{route, refitted}
 use Rattle.rules.specs.Check.{linked}
 use Rattle.rules.specs.Computes.{computes}
-use Rattle.laws.specs.Demand.{takerOf, taker, mergedTo, placeIn, reinsertedTo, rebalancedTo, ownersIn, ownersAll, refitOwners, ownersRefit, wayUp, rowPath}
+use Rattle.laws.specs.Demand.{takerOf, taker, mergedTo, reinsertedTo, rebalancedTo, ownersIn, ownersAll, refitOwners, ownersRefit, wayUp, rowPath}
 use Rattle.bites.specs.Told.{told}
 use Rattle.bites.specs.Formed.{formed}
 use Rattle.bites.specs.Spared.{sameNumbers, kept, spared}
 use Rattle.bites.specs.Fitting.{roomy, trusted}
 use Rattle.bites.specs.Steps.{batch, owning, renumbering, refittingOwners, joining, growing, splitting, merging, rebuilding, reinserting, pouring, checking}
+use Rattle.counting.specs.Places.{placeIn}
 
 -- one channel, branching 2
 abbrev with : ℕ → ℕ → Settings

@@ -15,12 +15,12 @@ use Rattle.head.specs.declared.Settings.{Settings}
 use Rattle.rules.specs.Lists.{every, upFrom, occurs}
 use Rattle.rules.specs.Tree.{Tree, push, merge, entryAt}
 use Rattle.rules.specs.Histories.{summarySeen}
-use Rattle.laws.specs.Counting.Count.{is, is-same, is-other, is-eq, same?, lt?, eq-test}
-use Rattle.laws.specs.Counting.Sums.{occurs-cons}
-use Rattle.laws.specs.Ownership.Owned.{get-occurs}
+use Rattle.counting.specs.Count.{is, is-same, is-other, is-eq, same?, lt?, eq-test}
+use Rattle.counting.specs.Sums.{occurs-cons}
 use Rattle.laws.specs.Demand.{Making, empty, taking, joining, madeOf, uses, owns}
 use Rattle.laws.specs.Ownership.Made.{AllMade, owns-none}
 use Rattle.bites.specs.Spared.{sameNumbers, numbers-same, every-below}
+use Rattle.counting.specs.Places.{get-occurs}
 
 -- the row at each place whose owner owns no other is, pushed into an empty summary, that entry
 unfoldable pub formed : Settings → List (List Float) → Tree → List ℕ → Bool

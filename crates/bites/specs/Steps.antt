@@ -21,7 +21,8 @@ use Rattle.rules.specs.Refold.{refolded}
 use Rattle.rules.specs.Rebuild.{Merging, mergeOne, counted, rebuilt, inserted, insertedAll}
 use Rattle.rules.specs.Refit.{route}
 use Rattle.rules.specs.Check.{checked}
-use Rattle.laws.specs.Demand.{taker, placeIn, rebalancedTo, ownersIn, ownersRefit}
+use Rattle.counting.specs.Places.{placeIn}
+use Rattle.laws.specs.Demand.{taker, rebalancedTo, ownersIn, ownersRefit}
 
 unfoldable pub batch : Settings → List (List Float) → Tree → Tree
 batch s [] t = t

@@ -22,7 +22,7 @@ use Rattle.rules.specs.Reinsert.{collected, cleared, replaced, replacedAll, rei
 use Rattle.rules.specs.Refold.{refoldOne, refoldAll, refolded, preorder}
 use Rattle.rules.specs.Rebuild.{dropped}
 use Rattle.rules.specs.Refit.{reaccumulated, used, anyHollow, refitRounds, refitted}
-use Rattle.laws.specs.Counting.Count.{either}
+use Rattle.counting.specs.Count.{either}
 
 module _ {B : Type 0} (f : Tree → B) (nodes : (ns : List Node) (t : Tree) → f (withNodes ns t) ≡ f t) (root : (r : ℕ) (t : Tree) → f (withRoot r t) ≡ f t) where
   next-keeps : (s : Settings) (go : ℕ → Tree → Tree) (i j : ℕ) (o : Option ℕ) (u : Tree) → ((p : ℕ) (v : Tree) → f (go p v) ≡ f v)

@@ -33,7 +33,8 @@ use Rattle.rules.specs.Reinsert.{collected, reinserted}
 use Rattle.rules.specs.Refit.{route, reaccumulated, used, anyHollow}
 use Rattle.rules.specs.Check.{checked, leafLists}
 use Rattle.rules.specs.Calls.{Lent, Left, Written, Listed, lentTree, created, rowInserted, batchInserted, batchRefitted, routed, spreadWritten, validated, listed}
-use Rattle.laws.specs.Counting.Count.{is}
+use Rattle.counting.specs.Count.{is}
+use Rattle.counting.specs.Places.{placeIn}
 
 -- ---- whose each row is: an account beside the tree, the owner of each row in order of arrival, moved by the numbers that each step uses
 
@@ -58,11 +59,7 @@ mergedInto s (suc k) [] m c = c
 mergedInto s (suc k) (p ∷ ps) m c =
     elim (bothAlive p (m .alive)) [ true ↦ mergedInto s k ps (mergeOne s p m) (mergedTo p c) | false ↦ mergedInto s (suc k) ps m c ]
 
--- reinsertion: the place of c in a list
-unfoldable pub placeIn : List ℕ → ℕ → ℕ
-placeIn [] c = 0
-placeIn (d ∷ ds) c = cond (eqb c d) 0 (suc (placeIn ds c))
-
+-- reinsertion: an entry goes by its place among the entries in the order in which they are placed
 unfoldable pub reinsertedTo : Settings → Tree → ℕ → ℕ
 reinsertedTo s t c = placeIn (reverse (collected t (length (t .nodes)) (t .root ∷ []))) c
 

@@ -14,8 +14,8 @@ use Rattle.head.specs.Sizes.{entryCap}
 use Rattle.rules.specs.Descent.{descended, leafFor, alongPath}
 use Rattle.rules.specs.Lists.{occurs}
 use Rattle.rules.specs.Tree.{Tree, nodeAt, cap, summed, withNodes}
-use Rattle.laws.specs.Counting.Sums.{over, length-over, sumTo, sum-at, sum-ones, sum-le}
-use Rattle.laws.specs.Counting.Count.{below-lt}
+use Rattle.counting.specs.Sums.{over, length-over, sumTo, sum-at, sum-ones, sum-le}
+use Rattle.counting.specs.Count.{below-lt}
 use Rattle.laws.specs.Invariant.Links.{Links, held, held-yes, kid-in, parent-lists, nil}
 use Rattle.laws.specs.Invariant.Sound.{Settled, Looking}
 use Rattle.laws.specs.Inserting.Descent.{leaf-found}

@@ -1,5 +1,4 @@
 -- Demand 3 over the rules: `Demand` states it, the rest proves it.
-pub mod Counting
 pub mod Demand
 pub mod Counters
 pub mod Summaries

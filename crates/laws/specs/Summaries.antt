@@ -25,8 +25,8 @@ use Rattle.rules.specs.declared.Pair.{Pair}
 use Rattle.rules.specs.Rebuild.{Merging, mergeOne, bothAlive, mergeAll, pruned, dropped, withMerges, rebalanced}
 use Rattle.rules.specs.Rebuild.{compacted, mergedBy, mergedWith, counted, rebuilt, inserted, insertedAll}
 use Rattle.rules.specs.Refit.{route, poured, reaccumulated, used, anyHollow, refitRounds, refitted}
-use Rattle.laws.specs.Counting.Count.{either}
-use Rattle.laws.specs.Counting.All.{All, all-map, all-at, all-change, all-back, all-take, all-keep, all-drop, all-append, all-set}
+use Rattle.counting.specs.Count.{either}
+use Rattle.counting.specs.All.{All, all-map, all-at, all-change, all-back, all-take, all-keep, all-drop, all-append, all-set}
 
 abbrev OfNode : (Summary → Type 0) → Node → Type 0
 OfNode Q n = Q (n .summary)

@@ -11,8 +11,8 @@ use Rattle.rules.specs.Tree.{nodeAt}
 use Rattle.rules.specs.Slices.{treeOf}
 use Rattle.laws.specs.ForCode.{Framed}
 use Rattle.laws.specs.Invariant.Beneath.{kid-below, entry-below}
-use Rattle.laws.specs.Ownership.Owned.{get-occurs}
 use Rattle.arena.specs.Trees.{ChildIn, ChildrenIn, count-nodes, count-entries}
+use Rattle.counting.specs.Places.{get-occurs}
 
 module _ (s : Settings) (n : Counters) (fs : List Float) (ls : List ℕ) (g : Framed (treeOf s n fs ls)) where
   pub root-in : n .root < n .nodes

@@ -10,7 +10,7 @@ use Rattle.head.specs.declared.Settings.{Settings}
 use Rattle.head.specs.Sizes.{entryCap}
 use Rattle.rules.specs.Lists.{occurs}
 use Rattle.rules.specs.Tree.{Tree, nodeAt}
-use Rattle.laws.specs.Counting.Sums.{over, length-over, occurs-here, occurs-later, sumTo, sum-at, sum-ones}
+use Rattle.counting.specs.Sums.{over, length-over, occurs-here, occurs-later, sumTo, sum-at, sum-ones}
 use Rattle.laws.specs.Invariant.Links.{leaf?}
 use Rattle.laws.specs.Invariant.Beneath.{Frame, kid-below, leaves-sum, deep-le}
 use Rattle.laws.specs.Invariant.Collected.{under, under-leaf, under-inner}

@@ -14,8 +14,8 @@ use Rattle.rules.specs.Slices.{treeOf}
 use Rattle.rules.specs.Descent.{alongPath}
 use Rattle.laws.specs.ForCode.{Sure, path-kids}
 use Rattle.laws.specs.Inserting.Grown.{climb-keeps, path-leaf, path-length}
-use Rattle.laws.specs.Ownership.Owned.{get-occurs}
 use Rattle.arena.specs.Trees.{ChildIn, ChildrenIn, count-nodes, count-entries}
+use Rattle.counting.specs.Places.{get-occurs}
 
 -- ---- a list whose numbers are there
 

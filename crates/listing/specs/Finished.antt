@@ -14,7 +14,6 @@ use Rattle.rules.specs.Tree.{entryAt}
 use Rattle.rules.specs.Slices.{treeOf}
 use Rattle.rules.specs.Calls.{lentTree}
 use Rattle.rules.specs.Listing.{badLine, report, rowsListed, linesListed}
-use Rattle.laws.specs.Check.Accept.{every-at}
 use Rattle.arena.specs.Trees.{count-entries}
 use Rattle.validate.specs.Passing.{passing-floats, passing-counts}
 use Rattle.reports.specs.Entries.{Reportable}
@@ -26,6 +25,7 @@ use Rattle.lines.specs.declared.Run.{Run}
 use Rattle.lines.specs.Runs.{listedAt, listed, Grown, Stands, stage-stands}
 use Rattle.lines.specs.Heads.{floats-enough}
 use Rattle.lines.specs.Rows.{grown-rests, grown-passes, grown-total, grown-few}
+use Rattle.counting.specs.Tests.{every-at}
 
 -- a run over its rows can report, and each row weighs one
 pub reportable : {n : ℕ} {h : Head} {fs : List Float} {ks : List ℕ} → Grown n h fs ks → 5950 ≤ length fs → Reportable h (n - 2) fs ks

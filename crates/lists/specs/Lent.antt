@@ -19,11 +19,11 @@ use Rattle.rules.specs.Tree.{Node, Tree, blankNode, nodeAt, entryAt, cap}
 use Rattle.rules.specs.Check.{known, listFits, leafLists}
 use Rattle.rules.specs.Slices.{lengthIn, nodeIn, blockAt, treeOf}
 use Rattle.arena.specs.Trees.{AnyFloats, AnyLinks, Links, node-at, count-nodes, count-entries}
-use Rattle.laws.specs.Counting.Count.{is}
-use Rattle.laws.specs.Counting.Sums.{over, occurs-over, length-over, sumTo, sum-same}
-use Rattle.laws.specs.Check.Accept.{every-at}
+use Rattle.counting.specs.Count.{is}
+use Rattle.counting.specs.Sums.{over, occurs-over, length-over, sumTo, sum-same}
 use Rattle.laws.specs.Check.Passing.{leaf-lists}
 use Rattle.lists.specs.Loops.{placed}
+use Rattle.counting.specs.Tests.{every-at}
 
 -- ---- what the conditions give to the code after them
 

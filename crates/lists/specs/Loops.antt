@@ -12,8 +12,8 @@ use lib.ListN.{length, getD}
 use Rattle.feature.specs.declared.Summary.{Summary}
 use Rattle.rules.specs.Lists.{every, upFrom, occurs}
 use Rattle.rules.specs.Check.{rowsIn, totalOf}
-use Rattle.laws.specs.Counting.Count.{same?, is, is-same, is-other}
-use Rattle.laws.specs.Counting.Sums.{over, occurs-over, sumTo}
+use Rattle.counting.specs.Count.{same?, is, is-same, is-other}
+use Rattle.counting.specs.Sums.{over, occurs-over, sumTo}
 use Rattle.laws.specs.Invariant.Height.{sum-first}
 use Rattle.laws.specs.Check.Passing.{every-up}
 

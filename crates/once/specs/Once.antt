@@ -18,9 +18,9 @@ use Rattle.rules.specs.Tree.{Tree, blankNode, nodeAt, cap}
 use Rattle.rules.specs.Check.{known, listFits, onceEach, leafLists}
 use Rattle.rules.specs.Slices.{treeOf}
 use Rattle.arena.specs.Trees.{count-nodes, count-entries}
-use Rattle.laws.specs.Counting.Count.{is, is-same, same?, lt?, below, below-in, below-out, below-le}
-use Rattle.laws.specs.Counting.Sums.{over, length-over, over-same, sumTo, sum-le, sum-ones, sum-some}
-use Rattle.laws.specs.Check.Accept.{every-at, up-at, in-at, occurs-sum, once-back}
+use Rattle.counting.specs.Count.{is, is-same, same?, lt?, below, below-in, below-out, below-le}
+use Rattle.counting.specs.Sums.{over, length-over, over-same, sumTo, sum-le, sum-ones, sum-some}
+use Rattle.laws.specs.Check.Accept.{occurs-sum, once-back}
 use Rattle.laws.specs.Check.Passing.{every-up, once-each}
 use Rattle.lists.specs.Loops.{fails-at, passed-all, sum-none, sum-more, sum-grows, occurs-places}
 use Rattle.lists.specs.Lent.{leafList, holds, leaves-occurs}
@@ -28,6 +28,7 @@ use Rattle.once.specs.declared.seen.Seen.{Seen}
 use Rattle.once.specs.declared.seen.Marks.{Marks}
 use Rattle.once.specs.declared.seen.Marks.the-variants as M
 use Rattle.once.specs.Seen.{Holds, Marked, marked-apart, marked-twice, none, times, times-none, times-few, with, with-new}
+use Rattle.counting.specs.Tests.{every-at, up-at, in-at}
 
 -- no number below n stands twice in a list
 unfoldable pub noneTwice : ℕ → List ℕ → Bool

@@ -12,7 +12,7 @@ use lib.Bits.{bitAnd, bitOr, or-step, and-mask, shifted-half, shifted-even}
 use lib.Dec.{eqb, lit<}
 use lib.ListN.{getD}
 use lib.Pow.{shr-shr, shl-exact}
-use Rattle.laws.specs.Counting.Count.{is, is-same, is-other, same?}
+use Rattle.counting.specs.Count.{is, is-same, is-other, same?}
 use Rattle.once.specs.declared.seen.Seen.{Seen}
 use Rattle.once.specs.declared.seen.Marks.{Marks}
 use Rattle.once.specs.declared.seen.Marks.the-variants as M

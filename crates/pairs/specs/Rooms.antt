@@ -16,7 +16,7 @@ use Rattle.head.specs.Sizes.{entryCap}
 use Rattle.rules.specs.Tree.{Tree, nodeAt}
 use Rattle.rules.specs.Slices.{treeOf}
 use Rattle.rules.specs.Pairs.{allLeaves, beneath}
-use Rattle.laws.specs.Counting.Sums.{over, length-over, sumTo, sum-same, sum-ones}
+use Rattle.counting.specs.Sums.{over, length-over, sumTo, sum-same, sum-ones}
 use Rattle.laws.specs.ForCode.{Framed}
 use Rattle.arena.specs.Trees.{Floats, caps-small, count-nodes, count-entries}
 use Rattle.scratch.specs.Stored.{Room}

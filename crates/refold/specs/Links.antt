@@ -14,12 +14,12 @@ use Rattle.head.specs.declared.Counters.{Counters}
 use Rattle.rules.specs.Lists.{occurs}
 use Rattle.rules.specs.Tree.{Tree, nodeAt}
 use Rattle.rules.specs.Slices.{treeOf}
-use Rattle.laws.specs.Counting.Count.{lt?, is-same, is-other, below-le}
-use Rattle.laws.specs.Counting.Sums.{occurs-cons, sum-at}
+use Rattle.counting.specs.Count.{lt?, is-same, is-other, below-le}
+use Rattle.counting.specs.Sums.{occurs-cons, sum-at}
 use Rattle.laws.specs.Invariant.Links.{inner, inner-yes}
-use Rattle.laws.specs.Ownership.Owned.{get-occurs}
 use Rattle.laws.specs.ForCode.{Framed, Standing}
 use Rattle.refold.specs.Walk.{lastUnder, nodeBefore}
+use Rattle.counting.specs.Places.{get-occurs}
 
 abbrev pub Stands : Settings → Counters → List ℕ → Type 0
 Stands s n ls = (fs : List Float) × Standing s (treeOf s n fs ls)

@@ -14,11 +14,11 @@ use Rattle.rules.specs.Lists.{changeAt}
 use Rattle.rules.specs.Tree.{Node, Tree, blankNode, nodeAt, child, withNodes, summed}
 use Rattle.rules.specs.Slices.{nodeIn, treeOf}
 use Rattle.rules.specs.Refold.{foldBalanced, refoldOne, preorder, refoldAll, refolded}
-use Rattle.laws.specs.Ownership.Owned.{get-occurs}
 use Rattle.laws.specs.Invariant.Beneath.{kid-below}
 use Rattle.laws.specs.ForCode.{Standing}
 use Rattle.arena.specs.Trees.{onNode, node-at, count-nodes}
 use Rattle.refold.specs.Walk.{Backward, top, step, nodeBefore}
+use Rattle.counting.specs.Places.{get-occurs}
 
 change-same : {A : Type 0} (f g : A → A) (i : ℕ) (l : List A) (d : A) → f (getD l i d) ≡ g (getD l i d) → changeAt f i l ≡ changeAt g i l
 unfolding changeAt

@@ -12,13 +12,13 @@ use Rattle.head.specs.declared.Settings.{Settings}
 use Rattle.rules.specs.Lists.{occurs, joined}
 use Rattle.rules.specs.Tree.{Tree, nodeAt}
 use Rattle.rules.specs.Refold.{preorder}
-use Rattle.laws.specs.Counting.Sums.{over, over-append, over-in, occurs-only, occurs-here, occurs-later, occurs-append, sumTo, sum-ones}
-use Rattle.laws.specs.Counting.Count.{lt?}
-use Rattle.laws.specs.Ownership.Owned.{get-occurs}
+use Rattle.counting.specs.Sums.{over, over-append, over-in, occurs-only, occurs-here, occurs-later, occurs-append, sumTo, sum-ones}
+use Rattle.counting.specs.Count.{lt?}
 use Rattle.laws.specs.Invariant.Links.{leaf?}
 use Rattle.laws.specs.Invariant.Beneath.{Frame, kid-below, deep-le}
 use Rattle.laws.specs.Invariant.Collected.{under, under-leaf, under-inner, under-root}
 use Rattle.laws.specs.ForCode.{Standing}
+use Rattle.counting.specs.Places.{get-occurs}
 
 -- always the last of the list, k steps at most
 unfoldable pub lastUnder : Tree → ℕ → ℕ → ℕ

@@ -12,8 +12,8 @@ use Rattle.head.specs.Sizes.{entryCap}
 use Rattle.rules.specs.Lists.{occurs}
 use Rattle.rules.specs.Tree.{Tree, nodeAt, entryAt}
 use Rattle.rules.specs.Reinsert.{collected}
-use Rattle.laws.specs.Counting.Count.{lt?}
-use Rattle.laws.specs.Counting.Sums.{over, over-append, length-over, occurs-append, occurs-here, occurs-later, occurs-only, sum-ones}
+use Rattle.counting.specs.Count.{lt?}
+use Rattle.counting.specs.Sums.{over, over-append, length-over, occurs-append, occurs-here, occurs-later, occurs-only, sum-ones}
 use Rattle.laws.specs.Invariant.Beneath.{kid-below}
 use Rattle.laws.specs.Invariant.Collected.{collect-sum, under-inner}
 use Rattle.laws.specs.ForCode.{Standing}

@@ -16,7 +16,7 @@ use Rattle.rules.specs.Tree.{Tree}
 use Rattle.rules.specs.Slices.{summaryIn}
 use Rattle.rules.specs.Reinsert.{replaced, replacedAll}
 use Rattle.rules.specs.Check.{rowsIn, totalOf}
-use Rattle.laws.specs.Counting.Lists.{snoc-length}
+use Rattle.counting.specs.Lists.{snoc-length}
 use Rattle.laws.specs.Invariant.Sound.{caps-of}
 use Rattle.laws.specs.Inserting.First.{Ready, place-ready}
 use Rattle.laws.specs.Rebuilding.Reinsert.{Rows, place-entries}

@@ -9,7 +9,7 @@ use Rattle.head.specs.declared.Settings.{Settings}
 use Rattle.head.specs.Sizes.{entryCap}
 use Rattle.rules.specs.Tree.{Tree, nodeAt, blankNode, withNodes, withEntries, withMerged, listing}
 use Rattle.rules.specs.Rebuild.{Merging, keepNumbers, pruned, dropped, withMerges}
-use Rattle.laws.specs.Counting.Sums.{sumTo, sum-same}
+use Rattle.counting.specs.Sums.{sumTo, sum-same}
 use Rattle.laws.specs.Invariant.Sound.{Settled}
 use Rattle.laws.specs.Inserting.Grown.{Counted}
 use Rattle.laws.specs.Rebuilding.Merge.{Merged}

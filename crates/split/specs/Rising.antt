@@ -17,8 +17,8 @@ use Rattle.rules.specs.Lists.{occurs}
 use Rattle.rules.specs.Tree.{Tree, nodeAt, cap, adding, withNodes, withRoot}
 use Rattle.rules.specs.Slices.{noParent, treeOf}
 use Rattle.rules.specs.Split.{parted, split, crowned, fitting}
-use Rattle.laws.specs.Counting.Count.{is, is-le, below-lt}
-use Rattle.laws.specs.Counting.Sums.{sumTo, sum-at}
+use Rattle.counting.specs.Count.{is, is-le, below-lt}
+use Rattle.counting.specs.Sums.{sumTo, sum-at}
 use Rattle.laws.specs.Invariant.Links as L
 use Rattle.laws.specs.Invariant.Links.{held, held-yes, kid-in, nil, put, parent-lists}
 use Rattle.laws.specs.Invariant.Sound.{Looking, Caps, caps-of, cap-some}
@@ -27,10 +27,10 @@ use Rattle.laws.specs.Splitting.Nodes.{split-length}
 use Rattle.laws.specs.Splitting.Split.{torn-of}
 use Rattle.laws.specs.Splitting.Up.{crowned-settled, next-looking, next-in, next-rank, next-root}
 use Rattle.laws.specs.Room.Nodes.{room-links}
-use Rattle.laws.specs.Ownership.Owned.{get-occurs}
 use Rattle.laws.specs.Inserting.Grown.{Placed}
 use Rattle.laws.specs.ForCode.{steps-few}
 use Rattle.arena.specs.Trees.{Floats, ChildIn, ChildrenIn, onNode, count-nodes, count-entries}
+use Rattle.counting.specs.Places.{get-occurs}
 
 -- what one split needs: two members or more that are there and fit a block, and a parent that fits its word
 pub record Splits (s : Settings) (n : Counters) (t : Tree) (i : ℕ) : Type 0 where

@@ -8,7 +8,7 @@ use native.Mathlib.Omega.{arith}
 use borrow.Author.Tests.{eq-eqb, ne-eqb, lt-ltb, le-ltb}
 use lib.ListN.{length}
 use Rattle.rules.specs.Tree.{Tree, blankNode, nodeAt}
-use Rattle.laws.specs.Counting.Lists.{past-end}
+use Rattle.counting.specs.Lists.{past-end}
 use Rattle.validate.specs.Climbing.{stepsUp, meets}
 
 module _ (t : Tree) where

@@ -13,8 +13,8 @@ use lib.ListN.{length}
 use Rattle.rules.specs.Lists.{occurs}
 use Rattle.rules.specs.Tree.{Tree, nodeAt}
 use Rattle.rules.specs.Check.{nextLevel}
-use Rattle.laws.specs.Counting.Count.{same?, is, is-same, is-other, below, below-in, below-out, lt?}
-use Rattle.laws.specs.Counting.Sums.{over, occurs-cons, occurs-append}
+use Rattle.counting.specs.Count.{same?, is, is-same, is-other, below, below-in, below-out, lt?}
+use Rattle.counting.specs.Sums.{over, occurs-cons, occurs-append}
 use Rattle.validate.specs.Climbing.{stepsUp, depth}
 
 -- ---- climbing with more steps to spare

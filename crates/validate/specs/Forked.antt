@@ -16,11 +16,10 @@ use Rattle.head.specs.declared.Settings.{Settings}
 use Rattle.rules.specs.Lists.{every, upFrom, occurs}
 use Rattle.rules.specs.Tree.{Tree, blankNode, nodeAt}
 use Rattle.rules.specs.Check.{rooted, listFits, linked, loneRoot, filled, nextLevel}
-use Rattle.laws.specs.Counting.Count.{same?, lt?, is, below-in}
-use Rattle.laws.specs.Counting.Sums.{over, length-over, sum-same, is-sym, first-of}
-use Rattle.laws.specs.Counting.Totals.{over-sum}
+use Rattle.counting.specs.Count.{same?, lt?, is, below-in}
+use Rattle.counting.specs.Sums.{over, length-over, sum-same, is-sym, first-of}
+use Rattle.counting.specs.Totals.{over-sum}
 use Rattle.laws.specs.Invariant.Links.{rankCount}
-use Rattle.laws.specs.Check.Accept.{every-at, up-at}
 use Rattle.laws.specs.Check.Passing.{every-up}
 use Rattle.validate.specs.Climbing.{depth}
 use Rattle.validate.specs.Depths.{Hung, Level, standsAt, stands-yes, stands-elsewhere, stands-nowhere, root-level, next-level}
@@ -30,6 +29,7 @@ use Rattle.validate.specs.Leveled.{hung, kid-deeper}
 use Rattle.validate.specs.Forking.{leafDepth, leafEven, forks, forked, forking}
 use Rattle.validate.specs.Forks.{some-at, some-found, over-more, over-above, greatest-at, first-leaf}
 use Rattle.lists.specs.Loops.{every-same}
+use Rattle.counting.specs.Tests.{every-at, up-at}
 
 or-first : (a b c : Bool) → T (a || (b && c)) → b ≡ false → T a
 or-first true b c h e = tt

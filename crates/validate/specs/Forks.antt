@@ -10,8 +10,8 @@ use lib.Dec.{T, ltb, ltb→lt}
 use lib.ListN.{length}
 use Rattle.rules.specs.Lists.{upFrom, occurs}
 use Rattle.rules.specs.Tree.{Tree, nodeAt}
-use Rattle.laws.specs.Counting.Count.{same?, lt?, is-other}
-use Rattle.laws.specs.Counting.Sums.{over, occurs-cons, occurs-here, occurs-later}
+use Rattle.counting.specs.Count.{same?, lt?, is-other}
+use Rattle.counting.specs.Sums.{over, occurs-cons, occurs-here, occurs-later}
 use Rattle.validate.specs.Climbing.{depth}
 use Rattle.validate.specs.Evenly.{greatest}
 use Rattle.validate.specs.Forking.{some, leafDepthFrom, leafDepth}

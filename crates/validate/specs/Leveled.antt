@@ -14,11 +14,11 @@ use Rattle.head.specs.declared.Settings.{Settings}
 use Rattle.rules.specs.Lists.{every, upFrom, occurs}
 use Rattle.rules.specs.Tree.{Tree, nodeAt, blankNode}
 use Rattle.rules.specs.Check.{rooted, listFits, nextLevel, levelsFrom, levels, linked, loneRoot, filled, sameKind, growing, level}
-use Rattle.laws.specs.Counting.Count.{same?, lt?}
-use Rattle.laws.specs.Counting.Sums.{occurs-here}
+use Rattle.counting.specs.Count.{same?, lt?}
+use Rattle.counting.specs.Sums.{occurs-here}
 use Rattle.laws.specs.Invariant.Links.{Links, nil, rankCount}
 use Rattle.laws.specs.Invariant.Height.{levels-some}
-use Rattle.laws.specs.Check.Accept.{every-at, up-at, ranks, links-by, accepted-links}
+use Rattle.laws.specs.Check.Accept.{ranks, links-by, accepted-links}
 use Rattle.laws.specs.Check.Passing.{every-up, or-right}
 use Rattle.laws.specs.Check.Levels.{level-holds}
 use Rattle.validate.specs.Climbing.{depth}
@@ -26,6 +26,7 @@ use Rattle.validate.specs.Depths.{Hung, depth-root, depth-parent}
 use Rattle.validate.specs.Evenly.{depths, deepest, widthAt, leafDeepest, widening, evenly}
 use Rattle.validate.specs.Linked.{linked-climbs, hung-tree}
 use Rattle.validate.specs.Widths.{greatest-least, width-is, deep-in, turned, none-count, some-count}
+use Rattle.counting.specs.Tests.{every-at, up-at}
 
 module _ (s : Settings) (t : Tree) (h2 : T (rooted t)) (h3 : T (every (listFits s t) (t .nodes))) (h4 : T (linked t)) (h5 : T (filled t)) where
   pub hung : Hung t

@@ -13,8 +13,8 @@ use Rattle.head.specs.declared.Settings.{Settings}
 use Rattle.rules.specs.Lists.{occurs, joined}
 use Rattle.rules.specs.Tree.{Tree, nodeAt}
 use Rattle.rules.specs.Check.{nextLevel, levelsFrom, levels}
-use Rattle.laws.specs.Counting.Count.{same?, is, is-other, below, below-in, below-lt, below-le, lt?}
-use Rattle.laws.specs.Counting.Sums.{over, occurs-over, occurs-cons, occurs-here, over-in}
+use Rattle.counting.specs.Count.{same?, is, is-other, below, below-in, below-lt, below-le, lt?}
+use Rattle.counting.specs.Sums.{over, occurs-over, occurs-cons, occurs-here, over-in}
 use Rattle.laws.specs.Check.Read.{Chain, uncut, listed-all, kid-rank}
 use Rattle.laws.specs.Check.Ranks.{rankIn, rank-top}
 use Rattle.validate.specs.Climbing.{stepsUp, depth}

@@ -14,14 +14,15 @@ use Rattle.head.specs.declared.Settings.{Settings}
 use Rattle.rules.specs.Lists.{every, upFrom, occurs, joined}
 use Rattle.rules.specs.Tree.{Tree, blankNode, nodeAt, cap}
 use Rattle.rules.specs.Check.{orphan, rooted, known, listFits, levels, onceEach, names, ownList, leafLists, linked}
-use Rattle.laws.specs.Counting.Count.{same?, below, below-in, below-lt}
-use Rattle.laws.specs.Counting.Sums.{over, length-over, over-same, sumTo, sum-same, sum-ones}
-use Rattle.laws.specs.Check.Accept.{every-at, up-at, occurs-sum, once-back, in-at, names-is, orphan-none}
+use Rattle.counting.specs.Count.{same?, below, below-in, below-lt}
+use Rattle.counting.specs.Sums.{over, length-over, over-same, sumTo, sum-same, sum-ones}
+use Rattle.laws.specs.Check.Accept.{occurs-sum, once-back, names-is, orphan-none}
 use Rattle.laws.specs.Check.Passing.{every-up, once-each, or-left, or-right}
 use Rattle.validate.specs.Climbing.{hangsFrom, hangs, depth, reaches, climbs}
 use Rattle.validate.specs.Depths.{Hung}
 use Rattle.validate.specs.Reached.{each-once}
 use Rattle.validate.specs.Levels.{hung, reach}
+use Rattle.counting.specs.Tests.{every-at, up-at, in-at}
 
 -- ---- tests and facts
 

@@ -13,15 +13,15 @@ use lib.ListN.{length}
 use Rattle.binary64.specs.Order.{same-test}
 use Rattle.rules.specs.Check.{ownList}
 use Rattle.rules.specs.Tree.{Tree, nodeAt}
-use Rattle.laws.specs.Counting.Count.{same?, lt?, is, is-same, below-le}
-use Rattle.laws.specs.Counting.Sums.{sumTo, sum-at, is-sym, sum-same}
-use Rattle.laws.specs.Counting.Totals.{sum-plus}
-use Rattle.laws.specs.Counting.Flags.{is-sum}
+use Rattle.counting.specs.Count.{same?, lt?, is, is-same, below-le}
+use Rattle.counting.specs.Sums.{sumTo, sum-at, is-sym, sum-same}
+use Rattle.counting.specs.Totals.{sum-plus}
+use Rattle.counting.specs.Flags.{is-sum}
 use Rattle.laws.specs.Invariant.Links.{rankCount}
-use Rattle.laws.specs.Check.Accept.{up-at}
 use Rattle.laws.specs.Check.Passing.{every-up}
 use Rattle.validate.specs.Climbing.{hangsFrom, hangs, stepsUp, depth, reaches, climbs, meets, meetsRoot, meeting}
 use Rattle.validate.specs.Depths.{steps-more}
+use Rattle.counting.specs.Tests.{up-at}
 
 -- ---- as many numbers as there are values
 

@@ -8,8 +8,8 @@ use lib.ListN.{length}
 use Rattle.rules.specs.Lists.{occurs, joined}
 use Rattle.rules.specs.Tree.{Tree}
 use Rattle.rules.specs.Check.{nextLevel, levelsFrom, levels}
-use Rattle.laws.specs.Counting.Count.{same?, below, below-in, below-out, lt?}
-use Rattle.laws.specs.Counting.Sums.{occurs-append}
+use Rattle.counting.specs.Count.{same?, below, below-in, below-out, lt?}
+use Rattle.counting.specs.Sums.{occurs-append}
 use Rattle.validate.specs.Climbing.{depth}
 use Rattle.validate.specs.Depths.{Hung, standsAt, Level, root-level, next-level, stands-yes, stands-elsewhere, stands-nowhere}
 

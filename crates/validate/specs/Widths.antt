@@ -9,8 +9,8 @@ use lib.Dec.{T, ltb, ltb→lt}
 use lib.ListN.{length}
 use Rattle.rules.specs.Lists.{upFrom, occurs}
 use Rattle.rules.specs.Tree.{Tree}
-use Rattle.laws.specs.Counting.Count.{same?, is, is-same, is-other}
-use Rattle.laws.specs.Counting.Sums.{occurs-cons, sumTo, sum-same, sum-zero}
+use Rattle.counting.specs.Count.{same?, is, is-same, is-other}
+use Rattle.counting.specs.Sums.{occurs-cons, sumTo, sum-same, sum-zero}
 use Rattle.laws.specs.Invariant.Links.{rankCount}
 use Rattle.laws.specs.Invariant.Height.{sum-first}
 use Rattle.validate.specs.Climbing.{depth}

@@ -20,10 +20,10 @@ use Rattle.rules.specs.Tree.{Tree, blankNode, nodeAt, entryAt, child}
 use Rattle.rules.specs.Check.{known, rowsIn, totalOf}
 use Rattle.rules.specs.Slices.{treeOf}
 use Rattle.arena.specs.Trees.{Floats, Links, ChildIn, count-nodes, count-entries}
-use Rattle.laws.specs.Counting.Sums.{sumTo}
-use Rattle.laws.specs.Check.Accept.{every-at}
+use Rattle.counting.specs.Sums.{sumTo}
 use Rattle.laws.specs.Check.Passing.{entries-sum}
 use Rattle.lists.specs.Lent.{Listed, EntriesCount, NodesCount, holds, listed-in}
+use Rattle.counting.specs.Tests.{every-at}
 
 -- the rows in what place k of node i's list names
 unfoldable pub rowsAt : Tree → ℕ → ℕ → ℕ

@@ -21,18 +21,19 @@ use Rattle.rules.specs.Lists.{every, upFrom}
 use Rattle.rules.specs.Tree.{Tree, nodeAt, entryAt, blankNode, child}
 use Rattle.rules.specs.Check.{rooted, listFits, linked, loneRoot, filled, level, rowsIn, totalOf, weighs, weighed}
 use Rattle.rules.specs.Reinsert.{collected}
-use Rattle.laws.specs.Counting.Count.{same?}
-use Rattle.laws.specs.Counting.Sums.{over, sumTo}
+use Rattle.counting.specs.Count.{same?}
+use Rattle.counting.specs.Sums.{over, sumTo}
 use Rattle.laws.specs.Invariant.Links.{Links, nil}
 use Rattle.laws.specs.Invariant.Weights.{blank-exact, exact-count, weightOf}
 use Rattle.laws.specs.Invariant.Weigh.{own}
 use Rattle.laws.specs.Invariant.Sound.{entryWeight, nodeWeight, Settled, weight-pick}
-use Rattle.laws.specs.Check.Accept.{every-at, up-at, ranks, accepted-links}
+use Rattle.laws.specs.Check.Accept.{ranks, accepted-links}
 use Rattle.laws.specs.Check.Passing.{every-up, every-list, entries-sum, weighed-holds}
 use Rattle.laws.specs.Check.Beneath.{rows-le, rows-root, weigh-beneath}
 use Rattle.laws.specs.Check.Taken.{Binary64, node-some, taken}
 use Rattle.laws.specs.Check.Empty.{one-node, root-zero}
 use Rattle.weights.specs.Adding.{rowsListed, addsUp, nodesAddUp, weighsNothing, summed}
+use Rattle.counting.specs.Tests.{every-at, up-at}
 
 -- a list's rows, as the laws count them
 listed-total : (t : Tree) (b : Bool) (l : List ℕ) → totalOf (map (child t b) l) ≡ over (weightOf t b) l

@@ -15,39 +15,14 @@ use Rattle.rules.specs.Lists.{upFrom, every, occurs, joined}
 use Rattle.rules.specs.Tree.{Tree, nodeAt, blankNode, cap}
 use Rattle.rules.specs.Check.{onceEach, orphan, names, rooted, listFits, nextLevel, levelsFrom, levels, ownList, leafLists, linked, loneRoot, filled}
 use Rattle.rules.specs.Check.{sameKind, growing, level, known}
-use Rattle.laws.specs.Counting.Count.{is, is-same, is-other, below, below-in, below-out, below-le, below-lt, below-suc, same?, lt?}
-use Rattle.laws.specs.Counting.Sums.{is-sym, over, occurs-over, occurs-cons, length-over, sumTo, sum-same, sum-ones, sum-zero}
+use Rattle.counting.specs.Count.{is, is-same, is-other, below, below-in, below-out, below-le, below-lt, below-suc, same?, lt?}
+use Rattle.counting.specs.Sums.{is-sym, over, occurs-over, occurs-cons, length-over, sumTo, sum-same, sum-ones, sum-zero}
 use Rattle.laws.specs.Invariant.Links.{Links, nil, inner, held, rankCount}
-use Rattle.laws.specs.Counting.Totals.{over-sum, sum-plus}
+use Rattle.counting.specs.Totals.{over-sum, sum-plus}
 use Rattle.laws.specs.Check.Passing.{leaf-lists}
 use Rattle.laws.specs.Check.Read.{Chain, uncut, listed-all, kid-rank, leaf-rank, lenAt, rank-count, len-grows}
 use Rattle.laws.specs.Check.Ranks.{rankIn, rank-here, rank-top}
-
--- ---- tests read back
-
-pub every-at : {A : Type 0} (f : A → Bool) (d : A) (l : List A) → T (every f l) → (i : ℕ) → i < length l → T (f (getD l i d))
-unfolding every
-every-at f d [] h i q = absurd (not-suc-le-zero q)
-every-at f d (x ∷ l) h zero q = and-l (f x) (every f l) h
-every-at f d (x ∷ l) h (suc i) q = every-at f d l (and-r (f x) (every f l) h) i (omega arith)
-
-pub up-at : (f : ℕ → Bool) (n i : ℕ) → T (every f (upFrom n i)) → (c : ℕ) → i ≤ c → c < i + n → T (f c)
-unfolding every upFrom
-up-at f zero i h c a b = absurd (omega arith)
-up-at f (suc n) i h c a b = go (same? c i) (λ q. up-at f n (suc i) (and-r (f i) (every f (upFrom n (suc i))) h) c q (omega arith))
-  where
-    go : (c ≡ i) ⊎ (c ≢ i) → (suc i ≤ c → T (f c)) → T (f c)
-    go (inl e) ih = subst (λ z. T (f z)) (sym e) (and-l (f i) (every f (upFrom n (suc i))) h)
-    go (inr e) ih = ih (omega arith)
-
-pub in-at : (f : ℕ → Bool) (l : List ℕ) → T (every f l) → (c : ℕ) → 0 < occurs c l → T (f c)
-unfolding every occurs
-in-at f [] h c o = absurd (not-suc-le-zero o)
-in-at f (x ∷ l) h c o = go (same? c x) (λ p. in-at f l (and-r (f x) (every f l) h) c p)
-  where
-    go : (c ≡ x) ⊎ (c ≢ x) → (0 < occurs c l → T (f c)) → T (f c)
-    go (inl e) ih = subst (λ z. T (f z)) (sym e) (and-l (f x) (every f l) h)
-    go (inr e) ih = let a : occurs c (x ∷ l) ≡ is c x + occurs c l = occurs-cons c x l in let b = is-other c x e in ih (omega arith)
+use Rattle.counting.specs.Tests.{every-at, up-at, in-at}
 
 -- ---- each once, and nothing else
 

@@ -11,9 +11,9 @@ use Rattle.rules.specs.Tree.{Tree, nodeAt, entryAt}
 use Rattle.rules.specs.Reinsert.{collected}
 use Rattle.rules.specs.Lists.{occurs}
 use Rattle.rules.specs.Check.{totalOf}
-use Rattle.laws.specs.Counting.Count.{is, below-le}
-use Rattle.laws.specs.Counting.Sums.{over, over-same, occurs-over, sumTo, sum-ones, occurs-only, over-in, first-of}
-use Rattle.laws.specs.Counting.Flags.{is-sum}
+use Rattle.counting.specs.Count.{is, below-le}
+use Rattle.counting.specs.Sums.{over, over-same, occurs-over, sumTo, sum-ones, occurs-only, over-in, first-of}
+use Rattle.counting.specs.Flags.{is-sum}
 use Rattle.laws.specs.Invariant.Links.{Links, nil, leaf?}
 use Rattle.laws.specs.Invariant.Height.{rank-zero}
 use Rattle.laws.specs.Invariant.Weigh.{own, own-leaf, own-inner}

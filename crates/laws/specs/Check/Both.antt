@@ -15,7 +15,7 @@ use Rattle.rules.specs.Lists.{every, joined, upFrom}
 use Rattle.rules.specs.Check.{sized, rooted, listFits, linked, filled, level, weighed, unsettled, onceEach, levels, ownList, leafLists, checked, totalOf}
 use Rattle.rules.specs.Tree.{Tree}
 use Rattle.laws.specs.Check.Taken.{lowest-none, Binary64, checked-whole}
-use Rattle.laws.specs.Counting.Count.{same?}
+use Rattle.counting.specs.Count.{same?}
 use Rattle.laws.specs.Inserting.First.{Holding}
 use Rattle.laws.specs.Check.Passing.{whole-passes}
 use Rattle.laws.specs.Check.Empty.{bare-passes, checked-bare}

@@ -12,16 +12,16 @@ use Rattle.head.specs.declared.Settings.{Settings}
 use Rattle.rules.specs.Tree.{Tree, nodeAt}
 use Rattle.rules.specs.Lists.{occurs, every, joined}
 use Rattle.rules.specs.Check.{nextLevel, levelsFrom, levels, sameKind, growing, level}
-use Rattle.laws.specs.Counting.Count.{is, is-same, is-other, is-eq, same?, below}
-use Rattle.laws.specs.Counting.Sums.{over, over-same, over-append, occurs-over, length-over, sumTo, over-zero}
-use Rattle.laws.specs.Counting.Sums.{sum-same, sum-some, sum-none, occurs-later, occurs-here}
+use Rattle.counting.specs.Count.{is, is-same, is-other, is-eq, same?, below}
+use Rattle.counting.specs.Sums.{over, over-same, over-append, occurs-over, length-over, sumTo, over-zero}
+use Rattle.counting.specs.Sums.{sum-same, sum-some, sum-none, occurs-later, occurs-here}
 use Rattle.laws.specs.Invariant.Height.{height, rank-zero}
 use Rattle.laws.specs.Invariant.Links.{Links, nil, leaf?, rankCount}
-use Rattle.laws.specs.Counting.Only.{only, only-at, only-off}
+use Rattle.counting.specs.Only.{only, only-at, only-off}
 use Rattle.laws.specs.Invariant.Beneath.{Frame, frame-of, inners-sum, alone}
-use Rattle.laws.specs.Counting.Totals.{sum-only}
+use Rattle.counting.specs.Totals.{sum-only}
 use Rattle.laws.specs.Invariant.Collected.{under, under-leaf, under-inner, under-root}
-use Rattle.laws.specs.Counting.Flags.{is-sum}
+use Rattle.counting.specs.Flags.{is-sum}
 use Rattle.laws.specs.Check.Read.{below-of, next-over}
 
 module _ {s : Settings} (t : Tree) {R : ℕ → ℕ} (g : Links s (nodeAt t) (length (t .nodes)) (t .root) (length (t .entries)) R nil nil nil) where

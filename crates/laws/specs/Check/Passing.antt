@@ -23,14 +23,14 @@ use Rattle.rules.specs.Tree.{Node, Tree, nodeAt, entryAt, blankNode, cap}
 use Rattle.rules.specs.Check.{onceEach, orphan, names, sized, rooted, listFits, levels, ownList, leafLists, linked, loneRoot, filled, level, rowsIn, totalOf}
 use Rattle.rules.specs.Check.{weighs, weighed, lowest, checked, known, unsettled}
 use Rattle.rules.specs.Reinsert.{collected}
-use Rattle.laws.specs.Counting.Count.{is, below, below-in}
-use Rattle.laws.specs.Counting.Sums.{over, over-append, occurs-over, length-over, sumTo, occurs-here, sum-ones, occurs-later}
+use Rattle.counting.specs.Count.{is, below, below-in}
+use Rattle.counting.specs.Sums.{over, over-append, occurs-over, length-over, sumTo, occurs-here, sum-ones, occurs-later}
 use Rattle.laws.specs.Invariant.Height.{sum-first}
 use Rattle.laws.specs.Invariant.Links.{nil, leaf?}
 use Rattle.laws.specs.Invariant.Beneath.{Frame, frame-of, leaves-sum, kid-below, entry-below}
 use Rattle.laws.specs.Invariant.Sound.{entryWeight, nodeWeight, Settled}
 use Rattle.laws.specs.Inserting.Grown.{Counted}
-use Rattle.laws.specs.Counting.Flags.{is-sum}
+use Rattle.counting.specs.Flags.{is-sum}
 use Rattle.laws.specs.Check.Beneath.{beneath-weighs}
 use Rattle.laws.specs.Check.Levels.{levels-once, each-once, level-holds}
 use Rattle.laws.specs.Room.Kept.{room-enough}

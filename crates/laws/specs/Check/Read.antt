@@ -13,8 +13,8 @@ use Rattle.head.specs.declared.Settings.{Settings}
 use Rattle.rules.specs.Tree.{Tree, nodeAt}
 use Rattle.rules.specs.Lists.{occurs, every, joined}
 use Rattle.rules.specs.Check.{nextLevel, levelsFrom, sameKind, growing}
-use Rattle.laws.specs.Counting.Count.{is, is-same, is-other, same?, lt?}
-use Rattle.laws.specs.Counting.Sums.{over, over-same, over-append, over-in, occurs-over, occurs-append, occurs-cons, length-over, over-zero}
+use Rattle.counting.specs.Count.{is, is-same, is-other, same?, lt?}
+use Rattle.counting.specs.Sums.{over, over-same, over-append, over-in, occurs-over, occurs-append, occurs-cons, length-over, over-zero}
 use Rattle.laws.specs.Check.Ranks.{rankIn, rank-here, rank-later}
 
 -- what node k lists, weighed by v

@@ -23,7 +23,7 @@ use Rattle.rules.specs.Tree.{Tree, nodeAt, entryAt}
 use Rattle.rules.specs.Reinsert.{collected}
 use Rattle.rules.specs.Check.{sized, rooted, listFits, linked, filled, loneRoot, level, rowsIn, totalOf, weighs, weighed, lowest, checked, unsettled}
 use Rattle.laws.specs.Invariant.Weights.{exact-count, exact-is, IsExact}
-use Rattle.laws.specs.Counting.Sums.{over-same, sumTo}
+use Rattle.counting.specs.Sums.{over-same, sumTo}
 use Rattle.laws.specs.Invariant.Links.{Links, nil, leaf?}
 use Rattle.laws.specs.Invariant.Beneath.{Frame, frame-of, kid-below}
 use Rattle.laws.specs.Invariant.Weigh.{own, own-leaf, own-inner}
@@ -31,7 +31,8 @@ use Rattle.laws.specs.Invariant.Sound.{entryWeight, nodeWeight, Settled}
 use Rattle.laws.specs.Inserting.Grown.{Counted, Whole}
 use Rattle.laws.specs.Check.Passing.{entries-sum, Trues}
 use Rattle.laws.specs.Check.Beneath.{rowsBeneath, rows-leaf, rows-inner, rows-le, rows-root, rows-some, beneath-is}
-use Rattle.laws.specs.Check.Accept.{every-at, up-at, ranks, accepted-links}
+use Rattle.laws.specs.Check.Accept.{ranks, accepted-links}
+use Rattle.counting.specs.Tests.{every-at, up-at}
 
 -- the floats are of binary64, as every number of a lent slice is
 pub record Binary64 (t : Tree) : Type 0 where

@@ -15,15 +15,15 @@ use Rattle.rules.specs.Tree.{Tree, nodeAt, entryAt, blankNode, withNodes, withE
 use Rattle.rules.specs.Insert.{begun}
 use Rattle.rules.specs.Check.{rowsIn}
 use Rattle.laws.specs.Invariant.Weights.{IsExact, Exactly, exact-count, exact-is}
-use Rattle.laws.specs.Counting.Count.{is, is-other, same?}
-use Rattle.laws.specs.Counting.Sums.{over, over-same, over-append}
+use Rattle.counting.specs.Count.{is, is-other, same?}
+use Rattle.counting.specs.Sums.{over, over-same, over-append}
 use Rattle.laws.specs.Invariant.Links.{Links, leaf?, nil}
 use Rattle.laws.specs.Splitting.Tied.{Added}
-use Rattle.laws.specs.Counting.Lists.{change-at, change-off, change-keeps, length-change, snoc-at, snoc-off, snoc-length}
+use Rattle.counting.specs.Lists.{change-at, change-off, change-keeps, length-change, snoc-at, snoc-off, snoc-length}
 use Rattle.laws.specs.Invariant.Weigh.{own, own-leaf, own-inner}
 use Rattle.laws.specs.Invariant.Sound.{entryWeight, nodeWeight, Settled, Looking}
 use Rattle.laws.specs.Inserting.Climb.{Pushed}
-use Rattle.laws.specs.Counting.Only.{only, only-at, only-off}
+use Rattle.counting.specs.Only.{only, only-at, only-off}
 use Rattle.laws.specs.Inserting.Listed.{new-links, held-in}
 
 -- ---- a new entry

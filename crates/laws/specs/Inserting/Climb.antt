@@ -15,15 +15,15 @@ use Rattle.rules.specs.Tree.{Node, Tree, nodeAt, entryAt, blankNode, withNodes,
 use Rattle.rules.specs.Descent.{climbed, alongPath}
 use Rattle.rules.specs.Check.{rowsIn}
 use Rattle.laws.specs.Invariant.Weights.{IsExact, Exactly, exact-count, exact-is}
-use Rattle.laws.specs.Counting.Count.{same?}
-use Rattle.laws.specs.Counting.Sums.{over, over-same, over-once}
+use Rattle.counting.specs.Count.{same?}
+use Rattle.counting.specs.Sums.{over, over-same, over-once}
 use Rattle.laws.specs.Invariant.Links.{Links, leaf?, nil, parent-lists, no-parent}
-use Rattle.laws.specs.Counting.Lists.{change-at, change-off, change-keeps, length-change}
+use Rattle.counting.specs.Lists.{change-at, change-off, change-keeps, length-change}
 use Rattle.laws.specs.Invariant.Weigh.{own, own-leaf, own-inner}
 use Rattle.laws.specs.Invariant.Sound.{entryWeight, nodeWeight, Exact, Settled}
 use Rattle.laws.specs.Invariant.Height.{height}
 use Rattle.laws.specs.Invariant.Same.{links-same}
-use Rattle.laws.specs.Counting.Only.{only, only-at, only-off}
+use Rattle.counting.specs.Only.{only, only-at, only-off}
 
 -- ---- one climb step, and all
 

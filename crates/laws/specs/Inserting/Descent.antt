@@ -12,8 +12,8 @@ use Rattle.head.specs.declared.Settings.{Settings}
 use Rattle.rules.specs.Lists.{occurs}
 use Rattle.rules.specs.Tree.{Tree, nodeAt}
 use Rattle.rules.specs.Descent.{Best, best, who, closer, nearest, closest, descended, leafFor}
-use Rattle.laws.specs.Counting.Count.{either}
-use Rattle.laws.specs.Counting.Sums.{occurs-cons, occurs-here, occurs-later}
+use Rattle.counting.specs.Count.{either}
+use Rattle.counting.specs.Sums.{occurs-cons, occurs-here, occurs-later}
 use Rattle.laws.specs.Invariant.Links.{Links, kid-in}
 use Rattle.laws.specs.Invariant.Height.{height, rank-zero}
 

@@ -13,14 +13,14 @@ use Rattle.rules.specs.Lists.{changeAt, occurs}
 use Rattle.rules.specs.Tree.{Tree, nodeAt, entryAt, withEntries}
 use Rattle.rules.specs.Check.{rowsIn}
 use Rattle.laws.specs.Invariant.Weights.{IsExact, Exactly, exact-count, exact-is}
-use Rattle.laws.specs.Counting.Count.{same?}
-use Rattle.laws.specs.Counting.Sums.{over-in, over-same, over-once}
+use Rattle.counting.specs.Count.{same?}
+use Rattle.counting.specs.Sums.{over-in, over-same, over-once}
 use Rattle.laws.specs.Invariant.Links.{Links, leaf?, nil, not-both}
-use Rattle.laws.specs.Counting.Lists.{change-at, change-off, length-change}
+use Rattle.counting.specs.Lists.{change-at, change-off, length-change}
 use Rattle.laws.specs.Invariant.Weigh.{own, own-leaf, own-inner}
 use Rattle.laws.specs.Invariant.Sound.{entryWeight, nodeWeight, Settled, Looking}
 use Rattle.laws.specs.Inserting.Climb.{Adds, Pushed}
-use Rattle.laws.specs.Counting.Only.{only, only-at, only-off}
+use Rattle.counting.specs.Only.{only, only-at, only-off}
 use Rattle.laws.specs.Inserting.Begun.{looking-of}
 use Rattle.laws.specs.Inserting.Listed.{held-in, held-one}
 

@@ -21,8 +21,8 @@ use Rattle.rules.specs.Descent.{searched, descended, leafFor, climbed, alongPat
 use Rattle.rules.specs.Insert.{begun, absorbedOrBegun, placed, grownAt, grown}
 use Rattle.rules.specs.Reinsert.{replaced}
 use Rattle.rules.specs.Check.{rowsIn}
-use Rattle.laws.specs.Counting.Count.{is, is-same, is-other, below, below-out, below-suc}
-use Rattle.laws.specs.Counting.Sums.{over, occurs-cons, sumTo}
+use Rattle.counting.specs.Count.{is, is-same, is-other, below, below-out, below-suc}
+use Rattle.counting.specs.Sums.{over, occurs-cons, sumTo}
 use Rattle.laws.specs.Invariant.Links.{Links, inner, held, nil, rankCount}
 use Rattle.laws.specs.Invariant.Weights.{Exactly, exact-count, exact-is, push-weigh, merge-weight, blank-exact}
 use Rattle.laws.specs.Invariant.Weigh.{own, pick}

@@ -22,9 +22,9 @@ use Rattle.rules.specs.Split.{settled}
 use Rattle.rules.specs.Check.{rowsIn}
 use Rattle.laws.specs.Invariant.Weights.{Exactly, push-weigh, merge-weight, blank-exact}
 use Rattle.laws.specs.Counters.{splitUp-entries}
-use Rattle.laws.specs.Counting.Lists.{change-keeps, length-change}
-use Rattle.laws.specs.Counting.Sums.{sumTo, sum-same, sum-change, occurs-here, occurs-later}
-use Rattle.laws.specs.Counting.Count.{either}
+use Rattle.counting.specs.Lists.{change-keeps, length-change}
+use Rattle.counting.specs.Sums.{sumTo, sum-same, sum-change, occurs-here, occurs-later}
+use Rattle.counting.specs.Count.{either}
 use Rattle.laws.specs.Invariant.Links.{nil}
 use Rattle.laws.specs.Invariant.Sound.{entryWeight, Settled, Looking, Caps}
 use Rattle.laws.specs.Splitting.Up.{split-up}

@@ -8,8 +8,8 @@ use native.Mathlib.Omega.{arith}
 use Rattle.head.specs.declared.Settings.{Settings}
 use Rattle.rules.specs.Lists.{occurs}
 use Rattle.rules.specs.Tree.{Node}
-use Rattle.laws.specs.Counting.Count.{is, is-other, same?, below, below-lt, below-le, below-suc}
-use Rattle.laws.specs.Counting.Sums.{occurs-snoc, sumTo, sum-same, sum-change, sum-at, sum-two}
+use Rattle.counting.specs.Count.{is, is-other, same?, below, below-lt, below-le, below-suc}
+use Rattle.counting.specs.Sums.{occurs-snoc, sumTo, sum-same, sum-change, sum-at, sum-two}
 use Rattle.laws.specs.Invariant.Links.{Links, inner, held, inner-no, inner-yes, held-yes, leaf?, nil, not-both}
 use Rattle.laws.specs.Splitting.Tied.{Added, added-caps, added-filled}
 

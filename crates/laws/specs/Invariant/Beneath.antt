@@ -10,12 +10,12 @@ use lib.Dec.{T, ltb, ltb→lt, nltb→le}
 use Rattle.head.specs.declared.Settings.{Settings}
 use Rattle.rules.specs.Tree.{Node}
 use Rattle.rules.specs.Lists.{occurs}
-use Rattle.laws.specs.Counting.Count.{is, is-same, is-other, below, below-in, below-lt, same?, lt?}
-use Rattle.laws.specs.Counting.Sums.{over, over-same, sumTo, sum-same, sum-at, sum-none, sum-some, over-zero}
+use Rattle.counting.specs.Count.{is, is-same, is-other, below, below-in, below-lt, same?, lt?}
+use Rattle.counting.specs.Sums.{over, over-same, sumTo, sum-same, sum-at, sum-none, sum-some, over-zero}
 use Rattle.laws.specs.Invariant.Height.{sum-swap}
 use Rattle.laws.specs.Invariant.Links.{Links, inner, held, inner-no, inner-yes, held-no, held-yes, leaf?, nil}
-use Rattle.laws.specs.Counting.Only.{only, only-at, only-off}
-use Rattle.laws.specs.Counting.Totals.{sum-plus, sum-only, over-sum, sum-times}
+use Rattle.counting.specs.Only.{only, only-at, only-off}
+use Rattle.counting.specs.Totals.{sum-plus, sum-only, over-sum, sum-times}
 
 -- the links without caps, filling and growth
 pub record Frame (A : ℕ → Node) (n root es : ℕ) (R : ℕ → ℕ) : Type 0 where

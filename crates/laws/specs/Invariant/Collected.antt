@@ -10,8 +10,8 @@ use Rattle.head.specs.declared.Settings.{Settings}
 use Rattle.rules.specs.Lists.{occurs}
 use Rattle.rules.specs.Tree.{Node, Tree, nodeAt}
 use Rattle.rules.specs.Reinsert.{collected}
-use Rattle.laws.specs.Counting.Count.{is-same, same?, lt?}
-use Rattle.laws.specs.Counting.Sums.{over, over-same, over-append, occurs-append, occurs-cons, sumTo, occurs-here, sum-ones, occurs-only}
+use Rattle.counting.specs.Count.{is-same, same?, lt?}
+use Rattle.counting.specs.Sums.{over, over-same, over-append, occurs-append, occurs-cons, sumTo, occurs-here, sum-ones, occurs-only}
 use Rattle.laws.specs.Invariant.Links.{leaf?}
 use Rattle.laws.specs.Invariant.Beneath.{Frame, deep, deep-root, leaves-sum, kid-below}
 

@@ -7,8 +7,8 @@ use native.Mathlib.Omega.{arith}
 use Rattle.head.specs.declared.Settings.{Settings}
 use Rattle.rules.specs.Tree.{Node}
 use Rattle.rules.specs.Lists.{occurs}
-use Rattle.laws.specs.Counting.Count.{is, is-other, is-le, below, below-in, below-lt, below-le, below-out, below-suc, same?}
-use Rattle.laws.specs.Counting.Sums.{sumTo, sum-same, sum-at, sum-none, is-sym, sum-ones, first-of}
+use Rattle.counting.specs.Count.{is, is-other, is-le, below, below-in, below-lt, below-le, below-out, below-suc, same?}
+use Rattle.counting.specs.Sums.{sumTo, sum-same, sum-at, sum-none, is-sym, sum-ones, first-of}
 use Rattle.laws.specs.Invariant.Links.{Links, held, held-yes, leaf?, rankCount, rank-some}
 
 sum-add : (f g : ℕ → ℕ) (n : ℕ) → sumTo (λ k. f k + g k) n ≡ sumTo f n + sumTo g n

@@ -10,8 +10,8 @@ use lib.ListN.{length}
 use Rattle.head.specs.declared.Settings.{Settings}
 use Rattle.rules.specs.Tree.{Node, cap}
 use Rattle.rules.specs.Lists.{occurs}
-use Rattle.laws.specs.Counting.Count.{is, is-same, is-other, below, below-in, below-lt, below-le, same?, eq-test}
-use Rattle.laws.specs.Counting.Sums.{sumTo, sum-same, sum-at, sum-some}
+use Rattle.counting.specs.Count.{is, is-same, is-other, below, below-in, below-lt, below-le, same?, eq-test}
+use Rattle.counting.specs.Sums.{sumTo, sum-same, sum-at, sum-some}
 
 -- how often an inner node's list names c, and a leaf's
 unfoldable pub inner : Node → ℕ → ℕ

@@ -7,8 +7,8 @@ use lib.ListN.{length}
 use Rattle.head.specs.declared.Settings.{Settings}
 use Rattle.rules.specs.Lists.{occurs}
 use Rattle.rules.specs.Tree.{Node, cap}
-use Rattle.laws.specs.Counting.Count.{is}
-use Rattle.laws.specs.Counting.Sums.{sum-same}
+use Rattle.counting.specs.Count.{is}
+use Rattle.counting.specs.Sums.{sum-same}
 use Rattle.laws.specs.Invariant.Links.{Links, inner, held}
 
 -- ---- links look at lists, kinds and parents only

@@ -10,7 +10,7 @@ use Rattle.head.specs.Limits.{Sized}
 use Rattle.rules.specs.Tree.{Tree, nodeAt, entryAt, child, cap}
 use Rattle.rules.specs.Check.{rowsIn}
 use Rattle.laws.specs.Invariant.Weights.{IsExact, weightOf}
-use Rattle.laws.specs.Counting.Count.{is}
+use Rattle.counting.specs.Count.{is}
 use Rattle.laws.specs.Invariant.Links.{Links, nil}
 use Rattle.laws.specs.Invariant.Weigh.{pick, Weighs}
 

@@ -4,7 +4,7 @@ use mathlib.Core.Path.{_≡_, ap}
 use mathlib.Core.Logic.{_≢_}
 use mathlib.Core.Bool.{Bool, true, false}
 use Rattle.rules.specs.Tree.{Node}
-use Rattle.laws.specs.Counting.Sums.{over}
+use Rattle.counting.specs.Sums.{over}
 use Rattle.laws.specs.Invariant.Links.{inner}
 
 unfoldable pub pick : Bool → (ℕ → ℕ) → (ℕ → ℕ) → ℕ → ℕ

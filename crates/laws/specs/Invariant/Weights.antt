@@ -14,7 +14,7 @@ use Rattle.rules.specs.Lists.{occurs}
 use Rattle.rules.specs.Tree.{Tree, push, merge, child}
 use Rattle.rules.specs.Split.{gathered}
 use Rattle.rules.specs.Check.{rowsIn}
-use Rattle.laws.specs.Counting.Sums.{over, occurs-here, occurs-later}
+use Rattle.counting.specs.Sums.{over, occurs-here, occurs-later}
 
 -- a summary that weighs exactly n
 abbrev pub Exactly : Summary → ℕ → Type 0

@@ -23,8 +23,8 @@ use Rattle.rules.specs.Insert.{begun, absorbed, absorbedOrBegun, placed, grownA
 use Rattle.laws.specs.Demand.{Moved, Same}
 use Rattle.laws.specs.Splitting.Nodes.{split-length, split-sum-o}
 use Rattle.laws.specs.Splitting.Extended.{extended, extend-added, extend-sum, extend-length, crowned-sum, crowned-parts}
-use Rattle.laws.specs.Counting.Lists.{change-off, change-keeps, length-change, past-end}
-use Rattle.laws.specs.Counting.Count.{same?, lt?, lt-ne}
+use Rattle.counting.specs.Lists.{change-off, change-keeps, length-change, past-end}
+use Rattle.counting.specs.Count.{same?, lt?, lt-ne}
 use Rattle.laws.specs.Invariant.Links.{leaf?, put, nil}
 use Rattle.laws.specs.Splitting.Torn.{Parts}
 use Rattle.laws.specs.Splitting.Tied.{Added}

@@ -12,10 +12,10 @@ use Rattle.rules.specs.Lists.{occurs}
 use Rattle.rules.specs.Tree.{distTo, Tree, nodeAt}
 use Rattle.rules.specs.Descent.{leafFor}
 use Rattle.laws.specs.Demand.{wayUp, rowPath}
-use Rattle.laws.specs.Counting.Count.{same?, is-other}
+use Rattle.counting.specs.Count.{same?, is-other}
 use Rattle.laws.specs.Invariant.Links.{nil, Links, parent-lists}
 use Rattle.laws.specs.Inserting.Descent.{leaf-found}
-use Rattle.laws.specs.Counting.Sums.{occurs-here, occurs-cons, occurs-later}
+use Rattle.counting.specs.Sums.{occurs-here, occurs-cons, occurs-later}
 use Rattle.laws.specs.Invariant.Height.{height}
 
 way-first : (t : Tree) (k n : ℕ) → 0 < k → 0 < occurs n (wayUp t k (some n))

@@ -14,16 +14,17 @@ use Rattle.rules.specs.Tree.{Tree, nodeAt, entryAt, blankNode, fresh}
 use Rattle.rules.specs.Lists.{occurs}
 use Rattle.rules.specs.Check.{rowsIn}
 use Rattle.rules.specs.Reinsert.{collected}
-use Rattle.laws.specs.Counting.Count.{is}
-use Rattle.laws.specs.Counting.Sums.{is-sym, over, over-same, occurs-over, occurs-cons, length-over, sumTo, sum-same}
+use Rattle.counting.specs.Count.{is}
+use Rattle.counting.specs.Sums.{is-sym, over, over-same, occurs-over, occurs-cons, length-over, sumTo, sum-same, over-plus, over-zero}
 use Rattle.laws.specs.Invariant.Weights.{blank-exact}
 use Rattle.laws.specs.Invariant.Sound.{entryWeight, nodeWeight}
 use Rattle.laws.specs.Inserting.Grown.{Whole}
-use Rattle.laws.specs.Counting.Totals.{over-sum}
+use Rattle.counting.specs.Totals.{over-sum}
 use Rattle.laws.specs.Rebuilding.Reinsert.{entries-total}
 use Rattle.laws.specs.Check.Beneath.{beneath-weighs, beneath-once}
 use Rattle.laws.specs.Demand.{rowsAmong, Account}
-use Rattle.laws.specs.Ownership.Owned.{Owned, owner-in, over-plus, over-zero, get-occurs}
+use Rattle.laws.specs.Ownership.Owned.{Owned, owner-in}
+use Rattle.counting.specs.Places.{get-occurs}
 
 pub rows-over : (l a : List ℕ) → ((c : ℕ) → occurs c l ≤ 1) → rowsAmong l a ≡ over (λ c. occurs c l) a
 unfolding rowsAmong over

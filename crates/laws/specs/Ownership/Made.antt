@@ -12,9 +12,9 @@ use Rattle.head.specs.declared.Settings.{Settings}
 use Rattle.rules.specs.Lists.{snoc, occurs}
 use Rattle.rules.specs.Tree.{push, merge}
 use Rattle.laws.specs.Demand.{Making, empty, taking, joining, madeOf, uses, owns, Made}
-use Rattle.laws.specs.Counting.Count.{is, is-same, is-other, same?, lt?}
-use Rattle.laws.specs.Counting.Sums.{occurs-here, occurs-later}
-use Rattle.laws.specs.Counting.Lists.{snoc-at, snoc-off, past-end}
+use Rattle.counting.specs.Count.{is, is-same, is-other, same?, lt?}
+use Rattle.counting.specs.Sums.{occurs-here, occurs-later}
+use Rattle.counting.specs.Lists.{snoc-at, snoc-off, past-end}
 
 -- each owner of a row, of the entries E, is made of the rows that the account gives it, each pushed once, and of no others
 abbrev pub AllMade : Settings → List (List Float) → (ℕ → Summary) → List ℕ → Type 0

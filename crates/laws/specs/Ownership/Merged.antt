@@ -20,24 +20,25 @@ use Rattle.rules.specs.Rebuild.{withMerges, rebalanced, compacted, mergedBy, me
 use Rattle.rules.specs.Reinsert.{collected, replaced, replacedAll, cleared, reinserted}
 use Rattle.rules.specs.Refold.{refolded}
 use Rattle.rules.specs.Check.{rowsIn}
-use Rattle.laws.specs.Counting.Lists.{past-end}
+use Rattle.counting.specs.Lists.{past-end}
 use Rattle.laws.specs.Inserting.Grown.{Counted}
-use Rattle.laws.specs.Counting.Count.{is, below, below-in, lt?, eq-test}
-use Rattle.laws.specs.Counting.Sums.{occurs-over, occurs-cons}
+use Rattle.counting.specs.Count.{is, below, below-in, lt?, eq-test}
+use Rattle.counting.specs.Sums.{occurs-over, occurs-cons}
 use Rattle.laws.specs.Invariant.Links.{nil}
 use Rattle.laws.specs.Invariant.Sound.{entryWeight, Settled}
 use Rattle.laws.specs.Invariant.Beneath.{Frame}
-use Rattle.laws.specs.Counting.Flags.{alive, alive-up, alive-down, is-sum, flag?}
+use Rattle.counting.specs.Flags.{alive, alive-up, alive-down, is-sum, flag?}
 use Rattle.laws.specs.Invariant.Collected.{collect-sum}
 use Rattle.laws.specs.Rebuilding.Reinsert.{place-entries}
 use Rattle.laws.specs.Rebuilding.Merge.{Merged, mergeWeight, merged-one, Every, merge-all, merges-some, aw-a, aw-b, aw-o, up-a, up-b, entry-a, entry-o}
 use Rattle.laws.specs.Rebuilding.Pairs.{NearPair, siblings-all, every-sorted, sorted-length, leaves-single, every-map}
 use Rattle.laws.specs.Rebuilding.Cousins.{FarPair, cousins-far, cousins-some}
 use Rattle.laws.specs.Rebuilding.Rebuilt.{mergeStart, begun-alive, frame-v, begun-merged, near-far, living-first}
-use Rattle.laws.specs.Demand.{mergedTo, mergedInto, placeIn, reinsertedTo, rebalancedTo, compactedTo, mergedByTo, mergedWithTo, rebuiltTo}
+use Rattle.laws.specs.Demand.{mergedTo, mergedInto, reinsertedTo, rebalancedTo, compactedTo, mergedByTo, mergedWithTo, rebuiltTo}
 use Rattle.laws.specs.Ownership.Moved.{moved-made}
-use Rattle.laws.specs.Ownership.Owned.{Held, heldBy, Carries, carries-then, carries-same, weight-past, owner-in, merge-carries, drop-carries, place-occurs, place-get}
+use Rattle.laws.specs.Ownership.Owned.{Held, heldBy, Carries, carries-then, carries-same, weight-past, owner-in, merge-carries, drop-carries}
 use Rattle.laws.specs.Counters.{refolded-entries}
+use Rattle.counting.specs.Places.{place-occurs, place-get, placeIn}
 
 -- ---- all merges
 

@@ -13,8 +13,8 @@ use Rattle.head.specs.declared.Settings.{Settings}
 use Rattle.rules.specs.Lists.{occurs}
 use Rattle.rules.specs.Tree.{merge}
 use Rattle.rules.specs.declared.Pair.{Pair}
-use Rattle.laws.specs.Counting.Count.{is, is-same, is-other, is-eq, same?, eq-test}
-use Rattle.laws.specs.Counting.Sums.{occurs-cons, occurs-here, occurs-later}
+use Rattle.counting.specs.Count.{is, is-same, is-other, is-eq, same?, eq-test}
+use Rattle.counting.specs.Sums.{occurs-cons, occurs-here, occurs-later}
 use Rattle.laws.specs.Demand.{mergedTo, owns, Made}
 use Rattle.laws.specs.Ownership.Made.{AllMade, map-same, at-plus, made-as, made-both}
 

@@ -1,12 +1,11 @@
 -- Each entry weighs as many rows as the account gives it: kept by each step.
-use Prim.Native.Nat.{ℕ, zero, suc, _+_, _*_, _≤_, _<_}
-use mathlib.Core.Path.{_≡_, refl, sym, ap, _∙_, subst}
+use Prim.Native.Nat.{ℕ, suc, _+_, _*_, _≤_, _<_}
+use mathlib.Core.Path.{_≡_, sym, ap, _∙_, subst}
 use mathlib.Core.Logic.{_⊎_, inl, inr, _≢_}
 use mathlib.Core.Bool.{Bool, true, false, cond}
-use mathlib.Core.List.{List, [], _∷_, map, map-map, map-id}
-use native.Mathlib.Nat.{not-suc-le-zero, le-of-suc-le-suc, zero-mul, mul-one, mul-zero}
+use mathlib.Core.List.{List, map, map-map, map-id}
+use native.Mathlib.Nat.{zero-mul, mul-one, mul-zero}
 use native.Mathlib.Omega.{arith}
-use lib.Dec.{eqb}
 use lib.ListN.{length, getD}
 use lib.Ieee.{Float}
 use Rattle.binary64.specs.Whole.{most}
@@ -23,14 +22,14 @@ use Rattle.rules.specs.Rebuild.{renumber, dropped}
 use Rattle.rules.specs.Check.{rowsIn}
 use Rattle.laws.specs.Invariant.Weights.{IsExact, exact-count, blank-exact, push-weigh}
 use Rattle.laws.specs.Inserting.Grown.{Hit}
-use Rattle.laws.specs.Counting.Count.{is, is-same, is-other, same?, lt?, eq-test}
-use Rattle.laws.specs.Counting.Sums.{over, over-same, occurs-over, occurs-cons, sumTo, sum-same, sum-none}
-use Rattle.laws.specs.Counting.Lists.{change-at, change-off, snoc-at, snoc-off, past-end}
+use Rattle.counting.specs.Count.{is, is-same, is-other, same?, lt?}
+use Rattle.counting.specs.Sums.{over, over-same, occurs-over, sumTo, sum-same, sum-none, map-occurs, over-plus, over-zero}
+use Rattle.counting.specs.Lists.{change-at, change-off, snoc-at, snoc-off, past-end}
 use Rattle.laws.specs.Invariant.Sound.{entryWeight}
-use Rattle.laws.specs.Counting.Only.{only, only-at, only-off}
-use Rattle.laws.specs.Counting.Totals.{over-sum, sum-only}
-use Rattle.laws.specs.Counting.Flags.{alive, alive-up, alive-down, flag?, renumber-sum, renumber-apart, keep-at, keep-length, up-in}
-use Rattle.laws.specs.Demand.{takerOf, mergedTo, placeIn, owns, Made}
+use Rattle.counting.specs.Only.{only, only-at, only-off}
+use Rattle.counting.specs.Totals.{over-sum, sum-only}
+use Rattle.counting.specs.Flags.{alive, alive-up, alive-down, flag?, renumber-sum, renumber-apart, keep-at, keep-length, up-in}
+use Rattle.laws.specs.Demand.{takerOf, mergedTo, owns, Made}
 use Rattle.laws.specs.Ownership.Made.{AllMade}
 use Rattle.laws.specs.Ownership.Moved.{moved-made, to-one, to-two, to-other, merge-made}
 
@@ -130,21 +129,6 @@ module _ (s : Settings) (x : List Float) (t : Tree) (exact : (c : ℕ) → c < l
 
 -- ---- moves
 
-pub map-occurs : (f : ℕ → ℕ) (c : ℕ) (a : List ℕ) → occurs c (map f a) ≡ over (λ i. is c (f i)) a
-unfolding over occurs
-map-occurs f c [] = refl
-map-occurs f c (i ∷ a) = occurs-cons c (f i) (map f a) ∙ ap (λ z. is c (f i) + z) (map-occurs f c a)
-
-pub over-plus : (f g : ℕ → ℕ) (a : List ℕ) → over (λ i. f i + g i) a ≡ over f a + over g a
-unfolding over
-over-plus f g [] = refl
-over-plus f g (i ∷ a) = let h = over-plus f g a in omega arith
-
-pub over-zero : (a : List ℕ) → over (λ _. 0) a ≡ 0
-unfolding over
-over-zero [] = refl
-over-zero (i ∷ a) = let h = over-zero a in omega arith
-
 -- the second of two entries that weigh something is merged into the first
 pub merge-carries : (s : Settings) (p : Pair) → p .one ≢ p .two → (X Y : Held) → Y .rows (p .one) ≡ X .rows (p .one) + X .rows (p .two) → Y .rows (p .two) ≡ 0
     → ((c : ℕ) → c ≢ p .one → c ≢ p .two → Y .rows c ≡ X .rows c) → 1 ≤ X .rows (p .one) → 1 ≤ X .rows (p .two)
@@ -235,59 +219,3 @@ module _ (s : Settings) (u : Tree) (bs : List Bool) (len : length bs ≡ length 
       up : (c : ℕ) → 0 < occurs c a → (getD bs c false ≡ true) ⊎ (getD bs c false ≡ false) → getD bs c false ≡ true
       up c o (inl e) = e
       up c o (inr e) = let p = alive-down bs (entryWeight u) c e in let q = h c in absurd (omega arith)
-
--- ---- places in a list
-
-pub get-occurs : (l : List ℕ) (k d : ℕ) → k < length l → 0 < occurs (getD l k d) l
-get-occurs [] k d h = absurd (not-suc-le-zero h)
-get-occurs (x ∷ l) zero d h = let p = occurs-cons x x l in let q = is-same x x refl in omega arith
-get-occurs (x ∷ l) (suc k) d h = let p = occurs-cons (getD l k d) x l in let q = get-occurs l k d (le-of-suc-le-suc h) in omega arith
-
-place-here : (x : ℕ) (l : List ℕ) (i : ℕ) → i ≡ x → placeIn (x ∷ l) i ≡ 0
-unfolding placeIn
-place-here x l i e = go (eqb i x) refl
-  where
-    go : (b : Bool) → eqb i x ≡ b → cond b 0 (suc (placeIn l i)) ≡ 0
-    go true q = refl
-    go false q = absurd (eq-test i x false q .1 refl e)
-
-place-there : (x : ℕ) (l : List ℕ) (i : ℕ) → i ≢ x → placeIn (x ∷ l) i ≡ suc (placeIn l i)
-unfolding placeIn
-place-there x l i e = go (eqb i x) refl
-  where
-    go : (b : Bool) → eqb i x ≡ b → cond b 0 (suc (placeIn l i)) ≡ suc (placeIn l i)
-    go true q = absurd (e (eq-test i x true q .0 refl))
-    go false q = refl
-
-pub place-get : (l : List ℕ) (i d : ℕ) → 0 < occurs i l → getD l (placeIn l i) d ≡ i
-place-get [] i d h = let z : occurs i [] ≡ 0 = unfold occurs in refl in absurd (omega arith)
-place-get (x ∷ l) i d h = go (same? i x) (λ o. place-get l i d o)
-  where
-    go : (i ≡ x) ⊎ (i ≢ x) → (0 < occurs i l → getD l (placeIn l i) d ≡ i) → getD (x ∷ l) (placeIn (x ∷ l) i) d ≡ i
-    go (inl e) ih = ap (λ k. getD (x ∷ l) k d) (place-here x l i e) ∙ sym e
-    go (inr e) ih = ap (λ k. getD (x ∷ l) k d) (place-there x l i e) ∙ ih (let p = occurs-cons i x l in let q = is-other i x e in omega arith)
-
-get-place : (l : List ℕ) (k d : ℕ) → k < length l → occurs (getD l k d) l ≡ 1 → placeIn l (getD l k d) ≡ k
-get-place [] k d h o = absurd (not-suc-le-zero h)
-get-place (x ∷ l) zero d h o = place-here x l x refl
-get-place (x ∷ l) (suc k) d h o =
-    let p = occurs-cons (getD l k d) x l in
-    let q = get-occurs l k d (le-of-suc-le-suc h) in
-    let z : is (getD l k d) x ≡ 0 = omega arith in
-    place-there x l (getD l k d) (λ e. clash z (is-same (getD l k d) x e)) ∙ ap suc (get-place l k d (le-of-suc-le-suc h) (omega arith))
-  where
-    clash : is (getD l k d) x ≡ 0 → is (getD l k d) x ≡ 1 → ⊥
-    clash a b = omega arith
-
--- each owner is in l once, and not n: row by row, place k is the number that stands there
-pub place-occurs : (l : List ℕ) (n k : ℕ) (a : List ℕ) → ((i : ℕ) → 0 < occurs i a → (occurs i l ≡ 1) × (i ≢ n))
-    → occurs k (map (placeIn l) a) ≡ occurs (getD l k n) a
-place-occurs l n k a h =
-    map-occurs (placeIn l) k a ∙ over-same (λ i. is k (placeIn l i)) (is (getD l k n)) a (λ i o. each i (h i o .0) (h i o .1) (same? k (placeIn l i))
-    (lt? k (length l))) ∙ sym (occurs-over (getD l k n) a)
-  where
-    each : (i : ℕ) → occurs i l ≡ 1 → i ≢ n → (k ≡ placeIn l i) ⊎ (k ≢ placeIn l i) → (k < length l) ⊎ (length l ≤ k) → is k (placeIn l i) ≡ is (getD l k n) i
-    each i o q (inl e) f = is-same k (placeIn l i) e ∙ sym (is-same (getD l k n) i (ap (λ z. getD l z n) e ∙ place-get l i n (let y = o in omega arith)))
-    each i o q (inr e) (inl f) =
-        is-other k (placeIn l i) e ∙ sym (is-other (getD l k n) i (λ z. e (sym (get-place l k n f (ap (λ y. occurs y l) z ∙ o)) ∙ ap (λ y. placeIn l y) z)))
-    each i o q (inr e) (inr f) = is-other k (placeIn l i) e ∙ sym (is-other (getD l k n) i (λ z. q (sym z ∙ past-end l n k f)))

@@ -24,8 +24,8 @@ use Rattle.rules.specs.Check.{rowsIn}
 use Rattle.laws.specs.Invariant.Weights.{IsExact}
 use Rattle.laws.specs.Counters.{splitUp-entries}
 use Rattle.laws.specs.Inserting.Grown.{Hit, Whole}
-use Rattle.laws.specs.Counting.Count.{is, eq-test}
-use Rattle.laws.specs.Counting.Sums.{occurs-snoc, sum-at}
+use Rattle.counting.specs.Count.{is, eq-test}
+use Rattle.counting.specs.Sums.{occurs-snoc, sum-at}
 use Rattle.laws.specs.Invariant.Sound.{entryWeight, Caps}
 use Rattle.laws.specs.Inserting.First.{Holding, grown-holds}
 use Rattle.laws.specs.Room.Kept.{Kept}

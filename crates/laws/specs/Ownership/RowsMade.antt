@@ -16,9 +16,9 @@ use Rattle.rules.specs.Lists.{changeAt, snoc, occurs}
 use Rattle.rules.specs.Tree.{push, Tree, entryAt}
 use Rattle.rules.specs.Insert.{grown}
 use Rattle.rules.specs.Rebuild.{rebuilt, inserted}
-use Rattle.laws.specs.Counting.Count.{is-other, same?, eq-test}
-use Rattle.laws.specs.Counting.Sums.{occurs-snoc}
-use Rattle.laws.specs.Counting.Lists.{change-at, change-off, length-change, snoc-at, snoc-off}
+use Rattle.counting.specs.Count.{is-other, same?, eq-test}
+use Rattle.counting.specs.Sums.{occurs-snoc}
+use Rattle.counting.specs.Lists.{change-at, change-off, length-change, snoc-at, snoc-off}
 use Rattle.laws.specs.Invariant.Sound.{Caps}
 use Rattle.laws.specs.Inserting.First.{Holding, grown-holds}
 use Rattle.laws.specs.Inserting.Grown.{Whole}

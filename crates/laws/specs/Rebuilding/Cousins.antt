@@ -12,11 +12,11 @@ use Rattle.rules.specs.Tree.{Node, Tree, nodeAt, blankNode}
 use Rattle.rules.specs.Pairs.{partners, allLeaves, beneath, cousins}
 use Rattle.rules.specs.declared.Pair.{Pair}
 use Rattle.rules.specs.Lists.{occurs}
-use Rattle.laws.specs.Counting.Count.{is, is-same, is-other, same?, lt?}
-use Rattle.laws.specs.Counting.Sums.{occurs-cons, occurs-append, over, over-same, length-over, sumTo, sum-none, occurs-here, sum-ones, occurs-later, first-of, over-zero}
+use Rattle.counting.specs.Count.{is, is-same, is-other, same?, lt?}
+use Rattle.counting.specs.Sums.{occurs-cons, occurs-append, over, over-same, length-over, sumTo, sum-none, occurs-here, sum-ones, occurs-later, first-of, over-zero}
 use Rattle.laws.specs.Invariant.Height.{sum-le, rank-zero}
 use Rattle.laws.specs.Invariant.Links.{Links, nil, leaf?, rankCount, kid-in}
-use Rattle.laws.specs.Counting.Lists.{past-end}
+use Rattle.counting.specs.Lists.{past-end}
 use Rattle.laws.specs.Inserting.Listed.{held-in, held-one}
 use Rattle.laws.specs.Invariant.Beneath.{Frame, frame-of, leaves-sum, inners-sum}
 use Rattle.laws.specs.Rebuilding.Merge.{Every}

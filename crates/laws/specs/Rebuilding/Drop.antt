@@ -15,14 +15,14 @@ use Rattle.rules.specs.Tree.{Tree, nodeAt, entryAt, blankNode, withNodes, withE
 use Rattle.rules.specs.Rebuild.{renumber, keepNumbers, pruned, dropped}
 use Rattle.rules.specs.Check.{rowsIn}
 use Rattle.laws.specs.Invariant.Weights.{IsExact}
-use Rattle.laws.specs.Counting.Count.{is, below}
-use Rattle.laws.specs.Counting.Sums.{over, over-same, length-over, occurs-over, sumTo, sum-same}
+use Rattle.counting.specs.Count.{is, below}
+use Rattle.counting.specs.Sums.{over, over-same, length-over, occurs-over, sumTo, sum-same}
 use Rattle.laws.specs.Invariant.Links.{Links, inner, held, inner-no, inner-yes, held-no, held-yes, leaf?, nil}
 use Rattle.laws.specs.Invariant.Weigh.{own, own-leaf, own-inner}
 use Rattle.laws.specs.Invariant.Sound.{entryWeight, nodeWeight}
 use Rattle.laws.specs.Inserting.Grown.{Counted, Whole}
 use Rattle.laws.specs.Invariant.Beneath.{Frame, frame-of, leaves-sum}
-use Rattle.laws.specs.Counting.Flags.{alive, alive-up, alive-down, flag?, over-kept, renumber-sum, is-sum, old-number, keep-at, keep-length}
+use Rattle.counting.specs.Flags.{alive, alive-up, alive-down, flag?, over-kept, renumber-sum, is-sum, old-number, keep-at, keep-length}
 
 over-le : (v w : ℕ → ℕ) (l : List ℕ) → ((c : ℕ) → v c ≤ w c) → over v l ≤ over w l
 unfolding over

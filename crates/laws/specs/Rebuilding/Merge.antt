@@ -16,13 +16,13 @@ use Rattle.rules.specs.declared.Pair.{Pair}
 use Rattle.rules.specs.Rebuild.{Merging, mergeOne, bothAlive, mergeAll}
 use Rattle.rules.specs.Check.{rowsIn}
 use Rattle.laws.specs.Invariant.Weights.{IsExact, Exactly, exact-count, exact-is, merge-weight}
-use Rattle.laws.specs.Counting.Sums.{over, over-same, over-once, over-in, sumTo, sum-change, sum-two}
-use Rattle.laws.specs.Counting.Count.{same?}
+use Rattle.counting.specs.Sums.{over, over-same, over-once, over-in, sumTo, sum-change, sum-two}
+use Rattle.counting.specs.Count.{same?}
 use Rattle.laws.specs.Invariant.Links.{Links, nil, put, put-at, put-off}
-use Rattle.laws.specs.Counting.Lists.{change-at, change-off, length-change}
+use Rattle.counting.specs.Lists.{change-at, change-off, length-change}
 use Rattle.laws.specs.Invariant.Sound.{nodeWeight}
 use Rattle.laws.specs.Inserting.Listed.{held-in, held-one}
-use Rattle.laws.specs.Counting.Flags.{alive, alive-up, alive-down, flag?, count-down, up-in}
+use Rattle.counting.specs.Flags.{alive, alive-up, alive-down, flag?, count-down, up-in}
 
 unfoldable pub mergeWeight : Settings → Merging → ℕ → ℕ
 mergeWeight s m c = rowsIn (getD (m .entries) c blank)

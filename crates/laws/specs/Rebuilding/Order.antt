@@ -9,10 +9,10 @@ use lib.ListN.{length}
 use Rattle.rules.specs.Tree.{Tree, nodeAt}
 use Rattle.rules.specs.Refold.{preorder}
 use Rattle.rules.specs.Lists.{occurs}
-use Rattle.laws.specs.Counting.Count.{is, is-same, lt?, below-in}
-use Rattle.laws.specs.Counting.Sums.{over, over-append, over-in, occurs-over, occurs-append, occurs-cons, sumTo, occurs-here, sum-ones, occurs-only}
+use Rattle.counting.specs.Count.{is, is-same, lt?, below-in}
+use Rattle.counting.specs.Sums.{over, over-append, over-in, occurs-over, occurs-append, occurs-cons, sumTo, occurs-here, sum-ones, occurs-only}
 use Rattle.laws.specs.Invariant.Links.{leaf?}
-use Rattle.laws.specs.Counting.Flags.{is-sum}
+use Rattle.counting.specs.Flags.{is-sum}
 use Rattle.laws.specs.Invariant.Beneath.{Frame, kid-below}
 use Rattle.laws.specs.Invariant.Collected.{under, under-leaf, under-inner, under-root}
 

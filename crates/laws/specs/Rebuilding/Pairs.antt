@@ -16,8 +16,8 @@ use Rattle.rules.specs.Descent.{Best, best, closer}
 use Rattle.rules.specs.Pairs.{partner, pairOf, costOf, partners, siblings, sortIn, sorted, cheaper}
 use Rattle.rules.specs.declared.Pair.{Pair}
 use Rattle.rules.specs.Lists.{occurs}
-use Rattle.laws.specs.Counting.Count.{is, is-same, is-other, eq-test, same?, lt?, either}
-use Rattle.laws.specs.Counting.Sums.{occurs-cons, occurs-here, occurs-later}
+use Rattle.counting.specs.Count.{is, is-same, is-other, eq-test, same?, lt?, either}
+use Rattle.counting.specs.Sums.{occurs-cons, occurs-here, occurs-later}
 use Rattle.laws.specs.Invariant.Links.{Links}
 use Rattle.laws.specs.Inserting.Listed.{held-in}
 use Rattle.laws.specs.Rebuilding.Merge.{Every}

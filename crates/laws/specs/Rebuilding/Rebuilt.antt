@@ -20,15 +20,15 @@ use Rattle.rules.specs.Reinsert.{reinserted}
 use Rattle.rules.specs.Refold.{refolded}
 use Rattle.rules.specs.Check.{rowsIn}
 use Rattle.laws.specs.Invariant.Weights.{IsExact}
-use Rattle.laws.specs.Counting.Sums.{over, over-same, length-over, sumTo, sum-same, sum-at}
-use Rattle.laws.specs.Counting.Count.{eq-test}
+use Rattle.counting.specs.Sums.{over, over-same, length-over, sumTo, sum-same, sum-at}
+use Rattle.counting.specs.Count.{eq-test}
 use Rattle.laws.specs.Invariant.Links.{Links, nil}
 use Rattle.laws.specs.Invariant.Weigh.{own-leaf, own-inner}
 use Rattle.laws.specs.Invariant.Sound.{entryWeight, nodeWeight, Settled, Caps}
 use Rattle.laws.specs.Inserting.Listed.{held-in}
 use Rattle.laws.specs.Inserting.Grown.{Counted, Whole}
 use Rattle.laws.specs.Invariant.Beneath.{Frame}
-use Rattle.laws.specs.Counting.Flags.{alive, alive-up, up-in}
+use Rattle.counting.specs.Flags.{alive, alive-up, up-in}
 use Rattle.laws.specs.Rebuilding.Drop.{dropped-entries, drop-frame, drop-rows, drop-counted, drop-whole}
 use Rattle.laws.specs.Rebuilding.Merge.{Merged, Near, mergeWeight, merged-one, near-one, Every, merge-all, merges-some}
 use Rattle.laws.specs.Rebuilding.Pairs.{NearPair, siblings-all, every-sorted, sorted-length, leaves-single, every-map}

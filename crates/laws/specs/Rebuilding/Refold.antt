@@ -16,7 +16,7 @@ use Rattle.rules.specs.Refold.{foldBalanced}
 use Rattle.rules.specs.Rebuild.{counted}
 use Rattle.rules.specs.Check.{rowsIn, totalOf}
 use Rattle.laws.specs.Invariant.Weights.{AllExact, IsExact, Exactly, merge-weight, blank-exact, weightOf}
-use Rattle.laws.specs.Counting.Sums.{over, occurs-here, occurs-later}
+use Rattle.counting.specs.Sums.{over, occurs-here, occurs-later}
 use Rattle.laws.specs.Invariant.Links.{Links, nil}
 use Rattle.laws.specs.Invariant.Weigh.{Weighs}
 use Rattle.laws.specs.Invariant.Sound.{entryWeight, nodeWeight, Exact}

@@ -18,9 +18,9 @@ use Rattle.rules.specs.Reinsert.{collected, replaced, replacedAll, cleared, rei
 use Rattle.rules.specs.Check.{rowsIn, totalOf}
 use Rattle.laws.specs.Invariant.Weights.{IsExact, blank-exact}
 use Rattle.laws.specs.Counters.{splitUp-entries}
-use Rattle.laws.specs.Counting.Lists.{snoc-length}
-use Rattle.laws.specs.Counting.Count.{is, same?, is-eq}
-use Rattle.laws.specs.Counting.Sums.{over, occurs-over, length-over, sumTo, sum-some, occurs-here, sum-ones, occurs-later}
+use Rattle.counting.specs.Lists.{snoc-length}
+use Rattle.counting.specs.Count.{is, same?, is-eq}
+use Rattle.counting.specs.Sums.{over, occurs-over, length-over, sumTo, sum-some, occurs-here, sum-ones, occurs-later}
 use Rattle.laws.specs.Invariant.Sound.{entryWeight, Caps}
 use Rattle.laws.specs.Inserting.Grown.{Whole}
 use Rattle.laws.specs.Inserting.First.{Ready, place-ready}

@@ -15,10 +15,10 @@ use Rattle.rules.specs.Refold.{foldBalanced, refoldOne, refoldAll, refolded, pr
 use Rattle.rules.specs.Lists.{occurs}
 use Rattle.rules.specs.Check.{rowsIn, totalOf}
 use Rattle.laws.specs.Invariant.Weights.{IsExact, Exactly, exact-count, exact-is, weightOf}
-use Rattle.laws.specs.Counting.Count.{is-other, same?}
-use Rattle.laws.specs.Counting.Sums.{over, over-same, occurs-cons, sumTo}
+use Rattle.counting.specs.Count.{is-other, same?}
+use Rattle.counting.specs.Sums.{over, over-same, occurs-cons, sumTo}
 use Rattle.laws.specs.Invariant.Links.{Links, nil, leaf?}
-use Rattle.laws.specs.Counting.Lists.{change-at, change-off, change-keeps, length-change}
+use Rattle.counting.specs.Lists.{change-at, change-off, change-keeps, length-change}
 use Rattle.laws.specs.Invariant.Weigh.{own, own-leaf, own-inner, Weighs}
 use Rattle.laws.specs.Invariant.Sound.{entryWeight, nodeWeight, Exact, Settled}
 use Rattle.laws.specs.Invariant.Same.{links-same}

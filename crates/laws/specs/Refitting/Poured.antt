@@ -12,8 +12,8 @@ use Rattle.head.specs.declared.Settings.{Settings}
 use Rattle.rules.specs.Lists.{changeAt}
 use Rattle.rules.specs.Tree.{push, Tree}
 use Rattle.rules.specs.Refit.{route, poured, reaccumulated}
-use Rattle.laws.specs.Counting.Count.{eq-test}
-use Rattle.laws.specs.Counting.Lists.{change-at, change-off, length-change}
+use Rattle.counting.specs.Count.{eq-test}
+use Rattle.counting.specs.Lists.{change-at, change-off, length-change}
 
 -- the rows that f sends to c, in order
 unfoldable pub rowsFor : (List Float → ℕ) → ℕ → List (List Float) → List (List Float)

@@ -13,8 +13,8 @@ use Rattle.head.specs.declared.Settings.{Settings}
 use Rattle.rules.specs.Lists.{changeAt, snoc, occurs}
 use Rattle.rules.specs.Tree.{push, Tree, nodeAt, entryAt, withEntries}
 use Rattle.rules.specs.Refit.{route, poured, reaccumulated}
-use Rattle.laws.specs.Counting.Count.{same?}
-use Rattle.laws.specs.Counting.Lists.{change-at, change-off, length-change}
+use Rattle.counting.specs.Count.{same?}
+use Rattle.counting.specs.Lists.{change-at, change-off, length-change}
 use Rattle.laws.specs.Invariant.Links.{Links, nil}
 use Rattle.laws.specs.Demand.{owns, Made}
 use Rattle.laws.specs.Ownership.Made.{AllMade, map-snoc, blank-made, taker-made, other-made}

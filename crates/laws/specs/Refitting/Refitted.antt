@@ -17,7 +17,7 @@ use Rattle.rules.specs.Reinsert.{reinserted}
 use Rattle.rules.specs.Refold.{refolded}
 use Rattle.rules.specs.Refit.{route, anyHollow, refitRounds, refitted}
 use Rattle.rules.specs.Check.{rowsIn}
-use Rattle.laws.specs.Counting.Count.{eq-test}
+use Rattle.counting.specs.Count.{eq-test}
 use Rattle.laws.specs.Invariant.Links.{Links, nil}
 use Rattle.laws.specs.Invariant.Sound.{entryWeight, Caps}
 use Rattle.laws.specs.Inserting.Grown.{Whole}

@@ -22,16 +22,16 @@ use Rattle.rules.specs.Rebuild.{renumber, dropped}
 use Rattle.rules.specs.Reinsert.{reinserted}
 use Rattle.rules.specs.Refit.{route, poured, reaccumulated, used, hollow, anyHollow}
 use Rattle.laws.specs.Invariant.Weights.{IsExact, Exactly, exact-count, exact-is, push-weigh, blank-exact}
-use Rattle.laws.specs.Counting.Count.{is, is-same, is-other, is-le, same?, lt?, eq-test}
-use Rattle.laws.specs.Counting.Sums.{over, occurs-cons, sumTo, sum-same}
-use Rattle.laws.specs.Counting.Lists.{change-at, change-off, length-change}
+use Rattle.counting.specs.Count.{is, is-same, is-other, is-le, same?, lt?, eq-test}
+use Rattle.counting.specs.Sums.{over, occurs-cons, sumTo, sum-same}
+use Rattle.counting.specs.Lists.{change-at, change-off, length-change}
 use Rattle.laws.specs.Invariant.Links.{Links, nil}
 use Rattle.laws.specs.Invariant.Sound.{entryWeight, Caps}
 use Rattle.laws.specs.Inserting.Descent.{leaf-found, first-in}
 use Rattle.laws.specs.Inserting.Listed.{held-in}
 use Rattle.laws.specs.Inserting.Grown.{Counted, Whole}
 use Rattle.laws.specs.Invariant.Beneath.{Frame}
-use Rattle.laws.specs.Counting.Flags.{alive, alive-up, alive-down, flag?, up-in}
+use Rattle.counting.specs.Flags.{alive, alive-up, alive-down, flag?, up-in}
 use Rattle.laws.specs.Rebuilding.Drop.{dropped-nodes, dropped-entries, leaf-is, drop-frame, drop-rows, drop-counted, size-leaf, drop-links}
 use Rattle.laws.specs.Rebuilding.Reinsert.{reinserted-whole}
 use Rattle.laws.specs.Rebuilding.Restored.{Stale}

@@ -19,7 +19,7 @@ use Rattle.rules.specs.Refold.{refolded}
 use Rattle.rules.specs.Rebuild.{dropped}
 use Rattle.rules.specs.Rebuild.{rebuilt, inserted, insertedAll}
 use Rattle.rules.specs.Refit.{reaccumulated, used, anyHollow, refitRounds, refitted}
-use Rattle.laws.specs.Counting.Count.{eq-test}
+use Rattle.counting.specs.Count.{eq-test}
 use Rattle.laws.specs.Invariant.Links.{Links, nil}
 use Rattle.laws.specs.Invariant.Sound.{Caps, caps-of}
 use Rattle.laws.specs.Inserting.Grown.{Whole}

@@ -20,7 +20,7 @@ use Rattle.rules.specs.Descent.{leafFor, alongPath}
 use Rattle.rules.specs.Split.{splitUp, settled}
 use Rattle.rules.specs.Insert.{begun, absorbed, absorbedOrBegun, placed, grownAt, grown, absorbs}
 use Rattle.rules.specs.Rebuild.{rebuilt, inserted}
-use Rattle.laws.specs.Counting.Lists.{length-change, snoc-length}
+use Rattle.counting.specs.Lists.{length-change, snoc-length}
 use Rattle.laws.specs.Invariant.Sound.{Caps}
 use Rattle.laws.specs.Room.Nodes.{room-links}
 use Rattle.laws.specs.Inserting.Grown.{Whole}

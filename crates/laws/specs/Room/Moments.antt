@@ -19,7 +19,7 @@ use Rattle.rules.specs.Insert.{begun, grownAt, grown}
 use Rattle.rules.specs.Reinsert.{collected, cleared, replaced, replacedAll, reinserted}
 use Rattle.rules.specs.Check.{rowsIn, totalOf}
 use Rattle.laws.specs.Counters.{splitUp-entries}
-use Rattle.laws.specs.Counting.Lists.{snoc-length}
+use Rattle.counting.specs.Lists.{snoc-length}
 use Rattle.laws.specs.Invariant.Weights.{IsExact, blank-exact}
 use Rattle.laws.specs.Invariant.Beneath.{Frame}
 use Rattle.laws.specs.Invariant.Sound.{Caps, caps-of, entryWeight}

@@ -11,7 +11,7 @@ use Rattle.head.specs.declared.Settings.{Settings}
 use Rattle.head.specs.Sizes.{nodeCap, entryCap}
 use Rattle.rules.specs.Tree.{Node, Tree, nodeAt, cap, withNodes, withRoot}
 use Rattle.rules.specs.Split.{split, parted, crowned, fitting, splitNext, splitIf, splitUp}
-use Rattle.laws.specs.Counting.Count.{is-le}
+use Rattle.counting.specs.Count.{is-le}
 use Rattle.laws.specs.Invariant.Links.{Links}
 use Rattle.laws.specs.Invariant.Height.{nodes-few}
 use Rattle.laws.specs.Invariant.Sound.{Looking, Caps, cap-some}

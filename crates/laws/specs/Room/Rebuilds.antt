@@ -18,8 +18,8 @@ use Rattle.rules.specs.Reinsert.{reinserted}
 use Rattle.rules.specs.Refold.{foldBalanced, refoldOne, preorder, refoldAll, refolded}
 use Rattle.rules.specs.Rebuild.{target, Merging, mergeOne, bothAlive, mergeAll, dropped, withMerges, rebalanced}
 use Rattle.rules.specs.Rebuild.{compacted, mergedBy, mergedWith, counted, rebuilt}
-use Rattle.laws.specs.Counting.Flags.{keep-few}
-use Rattle.laws.specs.Counting.Lists.{change-keeps, length-change}
+use Rattle.counting.specs.Flags.{keep-few}
+use Rattle.counting.specs.Lists.{change-keeps, length-change}
 use Rattle.laws.specs.Invariant.Sound.{Caps}
 use Rattle.laws.specs.Inserting.Grown.{Whole}
 use Rattle.laws.specs.Rebuilding.Drop.{dropped-nodes, dropped-leaf, dropped-lists}

@@ -20,7 +20,7 @@ use Rattle.laws.specs.Invariant.Sound.{caps-of}
 use Rattle.laws.specs.Inserting.First.{Holding, fresh-holds}
 use Rattle.laws.specs.Room.Kept.{inserted-kept}
 use Rattle.laws.specs.Check.Both.{AtRest}
-use Rattle.laws.specs.Counting.Lists.{snoc-length}
+use Rattle.counting.specs.Lists.{snoc-length}
 use Rattle.laws.specs.Demand.{taker, rebuiltTo, ownersIn, ownersAll, ownersRefit, effective}
 use Rattle.laws.specs.Ownership.Made.{AllMade}
 use Rattle.laws.specs.Ownership.Owned.{Owned}

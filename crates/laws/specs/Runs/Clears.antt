@@ -25,7 +25,7 @@ use Rattle.rules.specs.RefusalLaws.{none-both}
 use Rattle.rules.specs.CallLaws.{accepted-done, Ready, change-ready}
 use Rattle.rules.specs.Cleared.{Clears, changed-clears}
 use Rattle.rules.specs.Held.{in-shaped}
-use Rattle.laws.specs.Counting.All.{All, all-append}
+use Rattle.counting.specs.All.{All, all-append}
 use Rattle.laws.specs.Shapes.{ShapedTree, batch-shaped, refit-shaped}
 use Rattle.laws.specs.Check.Taken.{Binary64}
 use Rattle.laws.specs.Check.Both.{AtRest, passing-rests}

@@ -11,7 +11,7 @@ use Rattle.rules.specs.Slices.{noParent}
 use Rattle.rules.specs.Stored.{Fits}
 use Rattle.rules.specs.Held.{cap-in}
 use Rattle.laws.specs.Shapes.{ShapedTree}
-use Rattle.laws.specs.Counting.All.{all-at}
+use Rattle.counting.specs.All.{all-at}
 use Rattle.laws.specs.ForCode.{sure-of}
 use Rattle.laws.specs.Check.Both.{AtRest}
 use Rattle.laws.specs.Room.Kept.{holding-room}

@@ -18,8 +18,8 @@ use Rattle.rules.specs.Tree.{Tree, nodeAt, entryAt}
 use Rattle.rules.specs.Rebuild.{inserted, insertedAll}
 use Rattle.rules.specs.Refit.{refitted}
 use Rattle.rules.specs.Check.{checked, rowsIn, totalOf}
-use Rattle.laws.specs.Counting.Count.{is-same, is-other}
-use Rattle.laws.specs.Counting.Sums.{occurs-cons, occurs-append}
+use Rattle.counting.specs.Count.{is-same, is-other}
+use Rattle.counting.specs.Sums.{occurs-cons, occurs-append}
 use Rattle.laws.specs.Invariant.Weights.{exact-count, blank-exact}
 use Rattle.laws.specs.Invariant.Sound.{entryWeight}
 use Rattle.laws.specs.Inserting.First.{emptyTree, Zero, Holding}

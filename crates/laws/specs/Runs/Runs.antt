@@ -18,7 +18,7 @@ use Rattle.rules.specs.Tree.{Tree, fresh, entryAt}
 use Rattle.rules.specs.Rebuild.{insertedAll}
 use Rattle.rules.specs.Refit.{refitted}
 use Rattle.rules.specs.Check.{totalOf, leafLists}
-use Rattle.laws.specs.Counting.Count.{below, below-in, below-out}
+use Rattle.counting.specs.Count.{below, below-in, below-out}
 use Rattle.laws.specs.Invariant.Sound.{entryWeight}
 use Rattle.laws.specs.Inserting.First.{Holding}
 use Rattle.laws.specs.Check.Passing.{entries-sum}

@@ -11,8 +11,8 @@ use lib.ListN.{length}
 use Rattle.head.specs.declared.Settings.{Settings}
 use Rattle.rules.specs.Lists.{occurs}
 use Rattle.rules.specs.Tree.{Node, cap}
-use Rattle.laws.specs.Counting.Sums.{is-sym, occurs-cons, sum-none, sumTo, sum-same}
-use Rattle.laws.specs.Counting.Count.{is, is-same, is-other, below, below-suc, same?, lt-ne}
+use Rattle.counting.specs.Sums.{is-sym, occurs-cons, sum-none, sumTo, sum-same}
+use Rattle.counting.specs.Count.{is, is-same, is-other, below, below-suc, same?, lt-ne}
 use Rattle.laws.specs.Invariant.Links.{Links, inner, held, inner-yes, held-no, not-both, nil, rankCount, kid-in, put, put-at, put-off, rank-put}
 
 -- ---- a new root lists both halves

@@ -11,10 +11,10 @@ use Rattle.head.specs.declared.Settings.{Settings}
 use Rattle.rules.specs.Lists.{changeAt, snoc}
 use Rattle.rules.specs.Tree.{Node, Tree, blankNode, nodeAt, withNodes, withRoot, under, adding, listing}
 use Rattle.rules.specs.Split.{gathered, crowned}
-use Rattle.laws.specs.Counting.Count.{same?}
+use Rattle.counting.specs.Count.{same?}
 use Rattle.laws.specs.Splitting.Tied.{Added}
 use Rattle.laws.specs.Splitting.Crown.{Crowned}
-use Rattle.laws.specs.Counting.Lists.{snoc-length, change-off, change-keeps, snoc-at, change-at, length-change, snoc-off}
+use Rattle.counting.specs.Lists.{snoc-length, change-off, change-keeps, snoc-at, change-at, length-change, snoc-off}
 
 -- ---- one more in a list
 

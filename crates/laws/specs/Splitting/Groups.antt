@@ -15,8 +15,8 @@ use Rattle.head.specs.declared.Settings.{Settings}
 use Rattle.rules.specs.Lists.{keep, flip}
 use Rattle.rules.specs.Tree.{Tree, nodeAt, child, distBetween}
 use Rattle.rules.specs.Split.{Seeds, seeds, farther, seedsWith, seedsFrom, side, plusIf, sides, sidesBy, stays}
-use Rattle.laws.specs.Counting.Count.{either}
-use Rattle.laws.specs.Counting.Sums.{over, over-keep}
+use Rattle.counting.specs.Count.{either}
+use Rattle.counting.specs.Sums.{over, over-keep}
 
 module _ {A : Type 0} where
   -- a flag that is up keeps its element

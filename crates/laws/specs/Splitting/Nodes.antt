@@ -14,10 +14,10 @@ use Rattle.rules.specs.Lists.{changeAt, snoc, occurs}
 use Rattle.rules.specs.Tree.{Node, Tree, blankNode, nodeAt, withNodes, under}
 use Rattle.rules.specs.Split.{half, adopted, parted, split, gathered}
 use Rattle.laws.specs.Splitting.Groups.{stayList, moveList, two-lists}
-use Rattle.laws.specs.Counting.Count.{is, is-same, is-other, same?}
-use Rattle.laws.specs.Counting.Sums.{over, occurs-over, length-over, occurs-cons}
+use Rattle.counting.specs.Count.{is, is-same, is-other, same?}
+use Rattle.counting.specs.Sums.{over, occurs-over, length-over, occurs-cons}
 use Rattle.laws.specs.Splitting.Torn.{Parts}
-use Rattle.laws.specs.Counting.Lists.{snoc-length, change-off, change-keeps, snoc-at, change-at, length-change, snoc-off}
+use Rattle.counting.specs.Lists.{snoc-length, change-off, change-keeps, snoc-at, change-at, length-change, snoc-off}
 
 -- ---- adopted: only parents change
 

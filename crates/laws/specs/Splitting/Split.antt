@@ -12,8 +12,8 @@ use Rattle.rules.specs.Tree.{Tree, nodeAt, child}
 use Rattle.rules.specs.Split.{split, gathered}
 use Rattle.rules.specs.Check.{rowsIn}
 use Rattle.laws.specs.Invariant.Weights.{IsExact, Exactly, exact-count, exact-is, gather-exact, weightOf}
-use Rattle.laws.specs.Counting.Count.{is, below-lt, same?}
-use Rattle.laws.specs.Counting.Sums.{over, sumTo, sum-at, occurs-over}
+use Rattle.counting.specs.Count.{is, below-lt, same?}
+use Rattle.counting.specs.Sums.{over, sumTo, sum-at, occurs-over}
 use Rattle.laws.specs.Invariant.Links.{Links, held, held-yes, leaf?, nil, kid-in, put}
 use Rattle.laws.specs.Splitting.Torn.{Parts, torn-links}
 use Rattle.laws.specs.Splitting.Groups.{stayList, moveList, TwoLists, two-lists}

@@ -9,8 +9,8 @@ use lib.ListN.{length}
 use Rattle.head.specs.declared.Settings.{Settings}
 use Rattle.rules.specs.Lists.{snoc, occurs}
 use Rattle.rules.specs.Tree.{Node, cap}
-use Rattle.laws.specs.Counting.Sums.{is-sym, occurs-snoc, length-snoc, sumTo, sum-same, sum-change}
-use Rattle.laws.specs.Counting.Count.{is, is-same, is-other, below, same?}
+use Rattle.counting.specs.Sums.{is-sym, occurs-snoc, length-snoc, sumTo, sum-same, sum-change}
+use Rattle.counting.specs.Count.{is, is-same, is-other, below, same?}
 use Rattle.laws.specs.Invariant.Links.{Links, inner, held, inner-yes, held-no, nil, rankCount}
 
 -- ---- the parent lists the new half

@@ -11,8 +11,8 @@ use lib.ListN.{length}
 use Rattle.head.specs.declared.Settings.{Settings}
 use Rattle.rules.specs.Lists.{occurs}
 use Rattle.rules.specs.Tree.{Node, cap}
-use Rattle.laws.specs.Counting.Sums.{sumTo, sum-part}
-use Rattle.laws.specs.Counting.Count.{is, is-same, is-other, below, below-suc, same?, lt-ne}
+use Rattle.counting.specs.Sums.{sumTo, sum-part}
+use Rattle.counting.specs.Count.{is, is-same, is-other, below, below-suc, same?, lt-ne}
 use Rattle.laws.specs.Invariant.Links.{Links, inner, held, leaf?, nil, rankCount, kid-in, rank-some, put, put-at, put-off, rank-put}
 
 -- B is A with node i's list parted: one stays at i, two is at the new node n, and moved inner nodes name n as their parent

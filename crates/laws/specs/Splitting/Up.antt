@@ -14,8 +14,8 @@ use Rattle.rules.specs.Split.{split, crowned, fitting, splitNext, splitIf, spli
 use Rattle.rules.specs.Lists.{occurs}
 use Rattle.rules.specs.Check.{rowsIn}
 use Rattle.laws.specs.Invariant.Weights.{IsExact, Exactly, exact-count, exact-is, gather-exact, weightOf}
-use Rattle.laws.specs.Counting.Count.{is, is-other, same?, lt-ne}
-use Rattle.laws.specs.Counting.Sums.{over, occurs-cons}
+use Rattle.counting.specs.Count.{is, is-other, same?, lt-ne}
+use Rattle.counting.specs.Sums.{over, occurs-cons}
 use Rattle.laws.specs.Invariant.Links.{Links, leaf?, nil, parent-lists, no-parent, put, put-at, put-off}
 use Rattle.laws.specs.Splitting.Torn.{Parts}
 use Rattle.laws.specs.Splitting.Tied.{tied-links}

@@ -9,8 +9,8 @@ use native.Mathlib.Omega.{arith}
 use Rattle.head.specs.declared.Settings.{Settings}
 use Rattle.rules.specs.Lists.{snoc, occurs}
 use Rattle.rules.specs.Tree.{Node}
-use Rattle.laws.specs.Counting.Count.{is, is-other, same?, lt-ne}
-use Rattle.laws.specs.Counting.Sums.{over, over-same, over-once, over-append}
+use Rattle.counting.specs.Count.{is, is-other, same?, lt-ne}
+use Rattle.counting.specs.Sums.{over, over-same, over-once, over-append}
 use Rattle.laws.specs.Invariant.Links.{Links, inner, inner-no, inner-yes, leaf?, nil, kid-in, parent-lists}
 use Rattle.laws.specs.Splitting.Torn.{Parts}
 use Rattle.laws.specs.Splitting.Tied.{Added}

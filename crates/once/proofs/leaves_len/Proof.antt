@@ -5,7 +5,7 @@ use native.Mathlib.Omega.{arith}
 use borrow.Author.Needs.{needs}
 use lib.ListN.{length}
 use Rattle.rules.specs.Tree.{nodeAt}
-use Rattle.laws.specs.Counting.Sums.{sumTo}
+use Rattle.counting.specs.Sums.{sumTo}
 use Rattle.arena.specs.Trees.{AnyFloats}
 use Rattle.lists.specs.Loops.{sum-none, sum-more, sum-end}
 use Rattle.lists.specs.Lent.{leafList, leaf-few, leaves-length}

@@ -10,13 +10,13 @@ use Rattle.rules.specs.Lists.{occurs}
 use Rattle.rules.specs.Tree.{Tree, nodeAt}
 use Rattle.rules.specs.Slices.{treeOf}
 use Rattle.rules.specs.Refold.{preorder, refoldAll, refolded}
-use Rattle.laws.specs.Ownership.Owned.{get-occurs}
 use Rattle.stretch.specs.Blocks.{a-parent, no-parent}
 use Rattle.arena.specs.Trees.{count-nodes}
 use Rattle.listed.specs.Framed.{root-in}
 use Rattle.refold.specs.Walk.{lastUnder, Backward, walk-back}
 use Rattle.refold.specs.Refolding.{list-filled, same-list, same-leaf, back-in, back-some, back-top, Next, back-next, back-all, order-few}
 use Rattle.refold.proofs.refold.Statement.{statement}
+use Rattle.counting.specs.Places.{get-occurs}
 use Rattle.refold.proofs.refold.Tie as tie
 
 abbrev Inv-loop : tie.InvT-loop

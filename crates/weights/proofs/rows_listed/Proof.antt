@@ -5,7 +5,7 @@ use native.Mathlib.Omega.{arith}
 use borrow.Author.Needs.{needs}
 use Rattle.rules.specs.Tree.{nodeAt, child}
 use Rattle.rules.specs.Slices.{treeOf}
-use Rattle.laws.specs.Counting.Sums.{sumTo}
+use Rattle.counting.specs.Sums.{sumTo}
 use Rattle.weights.specs.Adding.{rowsListed}
 use Rattle.lists.specs.Loops.{sum-none, sum-more, sum-end, total-places}
 use Rattle.lists.specs.Lent.{list-few}

@@ -9,7 +9,7 @@ use Rattle.binary64.specs.Counts.{isCount}
 use Rattle.head.specs.Sizes.{entries-small}
 use Rattle.rules.specs.Tree.{entryAt}
 use Rattle.rules.specs.Check.{rowsIn}
-use Rattle.laws.specs.Counting.Sums.{sumTo}
+use Rattle.counting.specs.Sums.{sumTo}
 use Rattle.arena.specs.Trees.{AnyLinks}
 use Rattle.lists.specs.Loops.{sum-none, sum-more, sum-end}
 use Rattle.weights.specs.Weighable.{entry-counts, total-placed}

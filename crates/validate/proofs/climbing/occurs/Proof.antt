@@ -7,8 +7,8 @@ use borrow.Author.Needs.{needs}
 use lib.ListN.{getD}
 use Rattle.rules.specs.Tree.{nodeAt}
 use Rattle.rules.specs.Slices.{treeOf}
-use Rattle.laws.specs.Counting.Count.{is}
-use Rattle.laws.specs.Counting.Sums.{sumTo}
+use Rattle.counting.specs.Count.{is}
+use Rattle.counting.specs.Sums.{sumTo}
 use Rattle.arena.specs.Trees.{AnyFloats}
 use Rattle.lists.specs.Loops.{sum-none, sum-end, count-more, count-same, occurs-places}
 use Rattle.validate.proofs.climbing.occurs.Statement.{statement}

@@ -6,9 +6,9 @@ use mathlib.Core.List.{List, [], _∷_}
 use native.Mathlib.Nat.{zero-mul, one-mul, add-mul}
 use native.Mathlib.Omega.{arith}
 use Rattle.rules.specs.Lists.{occurs}
-use Rattle.laws.specs.Counting.Count.{is, is-same, is-other, same?}
-use Rattle.laws.specs.Counting.Sums.{over, occurs-cons, sumTo, sum-same, sum-none, sum-change, occurs-later, occurs-here}
-use Rattle.laws.specs.Counting.Only.{only, only-at, only-off}
+use Rattle.counting.specs.Count.{is, is-same, is-other, same?}
+use Rattle.counting.specs.Sums.{over, occurs-cons, sumTo, sum-same, sum-none, sum-change, occurs-later, occurs-here}
+use Rattle.counting.specs.Only.{only, only-at, only-off}
 
 -- ---- a sum over a list, number by number
 

@@ -11,8 +11,8 @@ use lib.ListN.{length, getD, take, set}
 use lib.Seq.{take-length}
 use Rattle.rules.specs.Lists.{keep, countUp}
 use Rattle.rules.specs.Rebuild.{renumber, numberIf, keepNumbers}
-use Rattle.laws.specs.Counting.Count.{is, is-eq, bit, below, below-out, below-in, below-suc}
-use Rattle.laws.specs.Counting.Sums.{over, sumTo, sum-some}
+use Rattle.counting.specs.Count.{is, is-eq, bit, below, below-out, below-in, below-suc}
+use Rattle.counting.specs.Sums.{over, sumTo, sum-some}
 
 -- v where flag c is up
 unfoldable pub alive : List Bool → (ℕ → ℕ) → ℕ → ℕ

@@ -3,13 +3,13 @@ use Prim.Native.Nat.{ℕ, zero, suc, _+_, _≤_, _<_}
 use mathlib.Core.Path.{_≡_, refl, sym, ap, _∙_, subst}
 use mathlib.Core.Logic.{_⊎_, inl, inr, _≢_}
 use mathlib.Core.Bool.{Bool, true, false, cond}
-use mathlib.Core.List.{List, [], _∷_, _++_}
+use mathlib.Core.List.{List, [], _∷_, _++_, map}
 use native.Mathlib.Nat.{not-suc-le-zero, suc-inj, suc-ne-zero, lt-irrefl}
 use native.Mathlib.Omega.{arith}
 use lib.Dec.{eqb}
 use lib.ListN.{length}
 use Rattle.rules.specs.Lists.{keep, flip, snoc, occurs}
-use Rattle.laws.specs.Counting.Count.{is, is-eq, is-other, same?, is-same, eq-test, lt?, bit}
+use Rattle.counting.specs.Count.{is, is-eq, is-other, same?, is-same, eq-test, lt?, bit}
 
 -- ---- sums over a list
 
@@ -219,3 +219,13 @@ sum-zero (suc n) = let q = sum-zero n in omega arith
 pub first-of : (l : List ℕ) → 0 < length l → (c : ℕ) × (0 < occurs c l)
 first-of [] h = absurd (omega arith)
 first-of (c ∷ l) h = (c, occurs-here c l)
+
+pub map-occurs : (f : ℕ → ℕ) (c : ℕ) (a : List ℕ) → occurs c (map f a) ≡ over (λ i. is c (f i)) a
+unfolding over occurs
+map-occurs f c [] = refl
+map-occurs f c (i ∷ a) = occurs-cons c (f i) (map f a) ∙ ap (λ z. is c (f i) + z) (map-occurs f c a)
+
+pub over-plus : (f g : ℕ → ℕ) (a : List ℕ) → over (λ i. f i + g i) a ≡ over f a + over g a
+unfolding over
+over-plus f g [] = refl
+over-plus f g (i ∷ a) = let h = over-plus f g a in omega arith

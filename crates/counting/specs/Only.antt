@@ -4,7 +4,7 @@ use mathlib.Core.Path.{_≡_, refl}
 use mathlib.Core.Logic.{_≢_}
 use mathlib.Core.Bool.{Bool, true, false, cond}
 use lib.Dec.{eqb}
-use Rattle.laws.specs.Counting.Count.{eq-test}
+use Rattle.counting.specs.Count.{eq-test}
 
 -- ---- d at one place
 

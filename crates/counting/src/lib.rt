@@ -1,0 +1,1 @@
+// Facts of lists, counts and sums: theorems only, no code.

@@ -34,7 +34,7 @@ module _ (s : Settings) (c : Counters) (fs : List Float) (ls : List ℕ) (f : Fl
       (table-same _ _ (c .entries) (λ i h. ap (summaryIn s) (slot-cut (nodeCap s + i) (omega arith))))
     where
       both : List Node → List Summary → Tree
-      both ns es = record { nodes = ns; entries = es; root = c .root; threshold = c .threshold; rebuilds = c .rebuilds; merged = c .merged }
+      both ns es = record { nodes = ns; entries = es; root = c .root; running = c .running }
 
   pub tree-cut : {j k : ℕ} → j ≡ floatsNeeded s → k ≡ linksNeeded s → treeOf s c (take j fs) (take k ls) ≡ treeOf s c fs ls
   tree-cut p q = ap₂ (λ j k. treeOf s c (take j fs) (take k ls)) p q ∙ needed-cut

@@ -8,14 +8,15 @@ use Rattle.feature.specs.declared.Summary.{Summary}
 use Rattle.head.specs.declared.Settings.{Settings}
 use Rattle.head.specs.declared.Counters.{Counters}
 use Rattle.head.specs.Sizes.{nodeCap}
-use Rattle.head.specs.Counting.{countNodes, countEntries, rootAt, countMerged}
+use Rattle.head.specs.Counting.{countNodes, countEntries, rootAt, countRunning}
 use Rattle.rules.specs.Lists.{snoc, table}
-use Rattle.rules.specs.Tree.{Node, withNodes, withEntries, withRoot, withMerged, summed}
+use Rattle.rules.specs.Tree.{Node, withNodes, withEntries, withRoot, summed, onRunning}
 use Rattle.rules.specs.Slices.{summaryIn, nodeIn, slotAt, blockAt, treeOf}
 use Rattle.stretch.specs.Blocks.{nodeOf, relinked}
 use Rattle.arena.specs.Tables.{table-same, table-change, table-more}
 use Rattle.arena.specs.Numbered.{summaryAt, Changed, Relinked}
 use Rattle.arena.specs.Trees.{Floats, onNode, onEntry, withNode, withEntry}
+use Rattle.head.specs.declared.Running.{Running}
 
 -- a node by the summary in its slot
 node-by : (s : Settings) (p q : List Float) (b : List ℕ) → summaryIn s p ≡ summaryIn s q → nodeIn s p b ≡ nodeIn s q b
@@ -104,6 +105,7 @@ pub tree-rooted : (s : Settings) (c : Counters) (r : ℕ) (fs : List Float) (ls 
 unfolding treeOf rootAt withRoot
 tree-rooted s c r fs ls = refl
 
-pub tree-merged : (s : Settings) (c : Counters) (k : ℕ) (fs : List Float) (ls : List ℕ) → treeOf s (countMerged k c) fs ls ≡ withMerged k (treeOf s c fs ls)
-unfolding treeOf countMerged withMerged
-tree-merged s c k fs ls = refl
+pub tree-running : (s : Settings) (c : Counters) (f : Running → Running) (fs : List Float) (ls : List ℕ) → treeOf s (countRunning f c) fs ls
+    ≡ onRunning f (treeOf s c fs ls)
+unfolding treeOf countRunning onRunning
+tree-running s c f fs ls = refl

@@ -11,6 +11,7 @@ use Rattle.head.specs.declared.refusal.Answer.{Answer}
 use Rattle.head.specs.declared.refusal.Answer.the-variants.{Accepted, Refused}
 use Rattle.boundary.specs.declared.HeadNumbers.{HeadNumbers}
 use Rattle.boundary.specs.declared.AnswerNumbers.{AnswerNumbers}
+use Rattle.head.specs.declared.Running.{Running}
 
 -- of the boundary, 0.1.0: what header, Rust crate and archive have to agree on
 abbrev pub version : ℕ
@@ -18,6 +19,7 @@ version = 100
 
 unfoldable pub headOf : HeadNumbers → Head
 headOf h =
+    let running : Running = record { threshold = h .threshold; rebuilds = h .rebuilds; merged = h .merged } in
     record {
       dim = h .dim;
       branching = h .branching;
@@ -26,7 +28,7 @@ headOf h =
       feature = h .feature;
       dist = h .dist;
       abs = h .abs;
-      counters = record { nodes = h .nodes; entries = h .entries; root = h .root; threshold = h .threshold; rebuilds = h .rebuilds; merged = h .merged };
+      counters = record { nodes = h .nodes; entries = h .entries; root = h .root; running = running };
     }
 
 unfoldable pub headNumbers : Head → HeadNumbers
@@ -40,9 +42,9 @@ headNumbers h =
       nodes = n .nodes;
       entries = n .entries;
       root = n .root;
-      rebuilds = n .rebuilds;
-      merged = n .merged;
-      threshold = n .threshold;
+      rebuilds = n .running .rebuilds;
+      merged = n .running .merged;
+      threshold = n .running .threshold;
       feature = h .feature;
       dist = h .dist;
       abs = h .abs;

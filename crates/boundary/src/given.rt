@@ -5,19 +5,23 @@ use crate::AnswerNumbers;
 use crate::HeadNumbers;
 use head::Counters;
 use head::Head;
+use head::Running;
 use head::refusal::Answer;
 use head::refusal::Refusal;
 
 pub fn head_of(h: HeadNumbers) -> Head
     ensures { λ r. ⌜ r ≡ headOf h ⌝ }
 {
+    let running = Running {
+        threshold: h.threshold,
+        rebuilds: h.rebuilds,
+        merged: h.merged as usize,
+    };
     let counters = Counters {
         nodes: h.nodes as usize,
         entries: h.entries as usize,
         root: h.root as usize,
-        threshold: h.threshold,
-        rebuilds: h.rebuilds,
-        merged: h.merged as usize,
+        running,
     };
     Head {
         dim: h.dim as usize,
@@ -42,9 +46,9 @@ pub fn head_numbers(h: Head) -> HeadNumbers
         nodes: h.counters.nodes as u64,
         entries: h.counters.entries as u64,
         root: h.counters.root as u64,
-        rebuilds: h.counters.rebuilds,
-        merged: h.counters.merged as u64,
-        threshold: h.counters.threshold,
+        rebuilds: h.counters.running.rebuilds,
+        merged: h.counters.running.merged as u64,
+        threshold: h.counters.running.threshold,
         feature: h.feature,
         dist: h.dist,
         abs: h.abs,

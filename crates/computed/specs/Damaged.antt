@@ -41,7 +41,7 @@ abbrev ones : ℕ → List Summary
 ones n = replicate n (weighing 1)
 
 abbrev tree : List Node → List Summary → ℕ → Tree
-tree ns es root = record { nodes = ns; entries = es; root = root; threshold = f0; rebuilds = 0; merged = 0 }
+tree ns es root = record { nodes = ns; entries = es; root = root; running = record { threshold = f0; rebuilds = 0; merged = 0 } }
 
 abbrev verdicts : Settings → List Tree → List Verdict
 verdicts s ts = map (checked s) ts
@@ -117,7 +117,7 @@ weights = refl
 -- 8: a merged total of M; one below it passes
 abbrev with-merged : ℕ → Tree
 with-merged n =
-    record { nodes = leaf 1 (0 ∷ []) none ∷ []; entries = ones 1; root = 0; threshold = f0; rebuilds = 0; merged = n }
+    record { nodes = leaf 1 (0 ∷ []) none ∷ []; entries = ones 1; root = 0; running = record { threshold = f0; rebuilds = 0; merged = n } }
 
 merged-total : verdicts (with 2 2) (with-merged 2 ∷ with-merged 1 ∷ []) ≡ Fails 8 ∷ Passes ∷ []
 unfolding computes

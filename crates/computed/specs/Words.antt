@@ -32,7 +32,7 @@ abbrev head : ℕ → Head
 head feature = newHead 2 2 1 1 feature 0 0 f0
 
 abbrev one-entry : ℕ → Head
-one-entry feature = withCounters (head feature) (record { nodes = 1; entries = 1; root = 0; threshold = f1; rebuilds = 3; merged = 0 })
+one-entry feature = withCounters (head feature) (record { nodes = 1; entries = 1; root = 0; running = record { threshold = f1; rebuilds = 3; merged = 0 } })
 
 -- a root without entries that weighs w; 1 wherever nothing may read
 abbrev empty-floats : Float → List Float
@@ -54,7 +54,7 @@ lent fs ls = record { floats = fs; links = ls; scratchFloats = replicate 10 f1 +
 -- ---- what is seen
 
 unfoldable countersSeen : Head → List ℕ
-countersSeen h = let c = h .counters in c .nodes ∷ c .entries ∷ c .root ∷ bits (c .threshold) ∷ c .rebuilds ∷ c .merged ∷ []
+countersSeen h = let c = h .counters in c .nodes ∷ c .entries ∷ c .root ∷ bits (c .running .threshold) ∷ c .running .rebuilds ∷ c .running .merged ∷ []
 
 -- the answer, the counters and every lent word
 unfoldable wordsSeen : Left → List (List ℕ)

@@ -49,7 +49,7 @@ counters-back s n fs ls =
     ap₂ (λ (a b : ℕ). counting a b) (sym (count-nodes s n fs ls)) (sym (count-entries s n fs ls))
   where
     counting : ℕ → ℕ → Counters
-    counting a b = record { nodes = a; entries = b; root = n .root; threshold = n .threshold; rebuilds = n .rebuilds; merged = n .merged }
+    counting a b = record { nodes = a; entries = b; root = n .root; running = n .running }
 
 -- ---- with other counters, after work that keeps the lengths
 

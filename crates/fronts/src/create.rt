@@ -19,14 +19,7 @@ fn empty(s: Settings, threshold: f64, floats: &mut [f64], links: &mut [u32]) -> 
     requires { ⌜ Sized s × (length (now floats) ≡ floatsNeeded s) × (length (now links) ≡ linksNeeded s) ⌝ }
     ensures { λ r. ⌜ TreeLeft s (fresh threshold) r (now (floats .exit)) (now (links .exit)) ⌝ }
 {
-    let n = Counters {
-        nodes: 1,
-        entries: 0,
-        root: 0,
-        threshold,
-        rebuilds: 0,
-        merged: 0,
-    };
+    let n = Counters::new(threshold);
     let m = reinsert::clear(s, n, floats, links);
     tidy(s, m, floats, links);
     m
@@ -38,7 +31,7 @@ pub fn create(h: Head, floats: &mut [f64], links: &mut [u32]) -> Head
     ensures { λ r. ⌜ made r (now (floats .exit)) (now (links .exit)) ≡ madeBy [] h (now (floats .entry)) (now (links .entry)) ⌝ }
 {
     let s = h.settings();
-    let threshold = h.counters.threshold;
+    let threshold = h.counters.running.threshold;
     let f = s.floats_needed();
     let l = s.links_needed();
     let n = empty(s, threshold, &mut floats[0..f], &mut links[0..l]);

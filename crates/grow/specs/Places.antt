@@ -64,7 +64,7 @@ module _ (s : Settings) (n r : Counters) (e : r ≡ countEntries (n .entries + 1
 -- ---- whether an entry absorbs a row, by the distance d that was worked out
 
 pub absorbs-is : (s : Settings) (n : Counters) (fs : List Float) (ls : List ℕ) (x : List Float) (e : ℕ) {d : Float}
-    → d ≡ absTo s (entryAt (treeOf s n fs ls) e) x → le d (n .threshold) ≡ absorbs s x e (treeOf s n fs ls)
+    → d ≡ absTo s (entryAt (treeOf s n fs ls) e) x → le d (n .running .threshold) ≡ absorbs s x e (treeOf s n fs ls)
 unfolding absorbs treeOf
 absorbs-is s n fs ls x e q = rw q
 

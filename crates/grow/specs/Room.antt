@@ -1,7 +1,6 @@
 -- What a tree has to be for a row more, or for a summary more, and what that gives for each step.
 use Prim.Native.Nat.{ℕ, _+_, _≤_, _<_}
 use mathlib.Core.Path.{_≡_, _∙_}
-use mathlib.Core.Logic.{inl, inr}
 use mathlib.Core.Bool.{Bool, true, false}
 use mathlib.Core.List.{List}
 use native.Mathlib.Omega.{arith}
@@ -21,7 +20,7 @@ use Rattle.rules.specs.Reinsert.{replaced}
 use Rattle.laws.specs.Invariant.Sound.{caps-of}
 use Rattle.laws.specs.Invariant.Weights.{Exactly}
 use Rattle.laws.specs.Inserting.Grown.{path-leaf}
-use Rattle.laws.specs.Inserting.First.{Holding, Ready, row-placed, entry-placed}
+use Rattle.laws.specs.Inserting.First.{Holding, Ready, row-placed, entry-placed, ready-holds}
 use Rattle.laws.specs.Check.Both.{AtRest}
 use Rattle.laws.specs.ForCode.{Sure, sure-of, leaf-of}
 use Rattle.arena.specs.Trees.{Floats, count-nodes, count-entries}
@@ -45,11 +44,6 @@ pub record Placeable (s : Settings) (t : Tree) (e : Summary) : Type 0 where
   pub some : 1 ≤ rows
   pub few : total + rows ≤ most
   pub room : length (t .entries) < entryCap s
-
--- a tree that is ready holds its rows
-pub ready-holds : (s : Settings) (t : Tree) (total : ℕ) → Ready s t total → Holding s t total
-ready-holds s t total (inl q) = inl ((q .0, q .1, q .2, q .3, inl (q .4 .0), q .5), q .6)
-ready-holds s t total (inr w) = inr w
 
 -- a tree between calls takes a row more
 pub rest-growable : (s : Settings) (t : Tree) (rows : ℕ) → AtRest s t rows → rows < most → Growable s t

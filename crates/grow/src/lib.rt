@@ -56,7 +56,7 @@ fn absorbs(s: Settings, n: Counters, floats: &[f64], e: usize, row: &[f64]) -> b
     ensures { λ r. ⌜ AnyLinks s n (now (floats .entry)) (λ t. r ≡ absorbs s (now (row .entry)) e t) ⌝ }
 {
     let abs = s.abs;
-    entries::to_row(s, n, floats, e, abs, row) <= n.threshold
+    entries::to_row(s, n, floats, e, abs, row) <= n.running.threshold
 }
 
 // A row goes into the nearest entry of a leaf if that absorbs it, and begins an entry else.

@@ -8,10 +8,11 @@ use Rattle.distance.specs.declared.Distance.the-variants.{CentroidEuclidean, Ce
 use Rattle.head.specs.declared.Counters.{Counters}
 use Rattle.head.specs.declared.Head.{Head}
 use Rattle.head.specs.declared.Settings.{Settings}
+use Rattle.head.specs.Counting.{newRunning}
 
 -- one node, a leaf with nothing in it
 unfoldable pub newCounters : Float → Counters
-newCounters threshold = record { nodes = 1; entries = 0; root = 0; threshold = threshold; rebuilds = 0; merged = 0 }
+newCounters threshold = record { nodes = 1; entries = 0; root = 0; running = newRunning threshold }
 
 unfoldable pub newHead : ℕ → ℕ → ℕ → ℕ → ℕ → ℕ → ℕ → Float → Head
 newHead dim branching leafCap maxLeaves feature dist abs threshold =

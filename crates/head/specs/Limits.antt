@@ -27,7 +27,7 @@ unfoldable pub thresholdWithin : Float → Bool
 thresholdWithin x = finite x && le f0 x
 
 unfoldable pub allowed : Head → Bool
-allowed h = sizesWithin h && (choicesWithin h && thresholdWithin (h .counters .threshold))
+allowed h = sizesWithin h && (choicesWithin h && thresholdWithin (h .counters .running .threshold))
 
 -- ---- what an allowed head gives to code
 

@@ -1,84 +1,67 @@
-// The counters made anew, one number changed.
+// The counters of an empty tree, and counters with one number changed.
 ghost use mathlib.Core.Path.{_≡_};
-ghost use Rattle.head.specs.Counting.{countNodes, countEntries, rootAt, thresholdAt, countRebuilds, countMerged};
+ghost use Rattle.head.specs.Heads.{newCounters};
+ghost use Rattle.head.specs.Counting.{countNodes, countEntries, rootAt, countRunning, withThreshold, withRebuilds, withMerged};
 use crate::Counters;
+use crate::Running;
 
 impl Counters {
-    pub fn with_nodes(self, nodes: usize) -> Self
+    // One node, a leaf with nothing in it.
+    pub fn new(threshold: f64) -> Self
+        ensures { λ r. ⌜ r ≡ newCounters threshold ⌝ }
+    {
+        let running = Running {
+            threshold,
+            rebuilds: 0,
+            merged: 0,
+        };
+        Counters {
+            nodes: 1,
+            entries: 0,
+            root: 0,
+            running,
+        }
+    }
+
+    pub fn with_nodes(mut self, nodes: usize) -> Self
         ensures { λ r. ⌜ r ≡ countNodes nodes self ⌝ }
     {
-        Counters {
-            nodes,
-            entries: self.entries,
-            root: self.root,
-            threshold: self.threshold,
-            rebuilds: self.rebuilds,
-            merged: self.merged,
-        }
+        self.nodes = nodes;
+        self
     }
 
-    pub fn with_entries(self, entries: usize) -> Self
+    pub fn with_entries(mut self, entries: usize) -> Self
         ensures { λ r. ⌜ r ≡ countEntries entries self ⌝ }
     {
-        Counters {
-            nodes: self.nodes,
-            entries,
-            root: self.root,
-            threshold: self.threshold,
-            rebuilds: self.rebuilds,
-            merged: self.merged,
-        }
+        self.entries = entries;
+        self
     }
 
-    pub fn with_root(self, root: usize) -> Self
+    pub fn with_root(mut self, root: usize) -> Self
         ensures { λ r. ⌜ r ≡ rootAt root self ⌝ }
     {
-        Counters {
-            nodes: self.nodes,
-            entries: self.entries,
-            root,
-            threshold: self.threshold,
-            rebuilds: self.rebuilds,
-            merged: self.merged,
-        }
+        self.root = root;
+        self
     }
 
-    pub fn with_threshold(self, threshold: f64) -> Self
-        ensures { λ r. ⌜ r ≡ thresholdAt threshold self ⌝ }
+    pub fn with_threshold(mut self, threshold: f64) -> Self
+        ensures { λ r. ⌜ r ≡ countRunning (withThreshold threshold) self ⌝ }
     {
-        Counters {
-            nodes: self.nodes,
-            entries: self.entries,
-            root: self.root,
-            threshold,
-            rebuilds: self.rebuilds,
-            merged: self.merged,
-        }
+        self.running.threshold = threshold;
+        self
     }
 
-    pub fn with_rebuilds(self, rebuilds: u64) -> Self
-        ensures { λ r. ⌜ r ≡ countRebuilds rebuilds self ⌝ }
+    pub fn with_rebuilds(mut self, rebuilds: u64) -> Self
+        ensures { λ r. ⌜ r ≡ countRunning (withRebuilds rebuilds) self ⌝ }
     {
-        Counters {
-            nodes: self.nodes,
-            entries: self.entries,
-            root: self.root,
-            threshold: self.threshold,
-            rebuilds,
-            merged: self.merged,
-        }
+        self.running.rebuilds = rebuilds;
+        self
     }
 
-    pub fn with_merged(self, merged: usize) -> Self
-        ensures { λ r. ⌜ r ≡ countMerged merged self ⌝ }
+    pub fn with_merged(mut self, merged: usize) -> Self
+        ensures { λ r. ⌜ r ≡ countRunning (withMerged merged) self ⌝ }
     {
-        Counters {
-            nodes: self.nodes,
-            entries: self.entries,
-            root: self.root,
-            threshold: self.threshold,
-            rebuilds: self.rebuilds,
-            merged,
-        }
+        self.running.merged = merged;
+        self
     }
 }

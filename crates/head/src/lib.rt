@@ -9,15 +9,20 @@ ghost use Rattle.head.specs.Heads.{newHead, featureAt, distanceAt, setti
 use distance::Distance;
 use feature::Feature;
 
-// What a tree counts as it grows: its nodes and entries, which node is the root, the absorption threshold, the rebuilds,
-// and the entries merged away since the nodes were last built anew.
+// What runs along with a tree's nodes and entries: the absorption threshold, the rebuilds, and the entries merged away
+// since the nodes were last built anew.
+pub struct Running {
+    pub threshold: f64,
+    pub rebuilds: u64,
+    pub merged: usize,
+}
+
+// What a tree counts as it grows: its nodes and entries, which node is the root, and what runs along with them.
 pub struct Counters {
     pub nodes: usize,
     pub entries: usize,
     pub root: usize,
-    pub threshold: f64,
-    pub rebuilds: u64,
-    pub merged: usize,
+    pub running: Running,
 }
 
 // The settings as the caller has them, numbers that may be outside their limits, and the counters.
@@ -104,14 +109,7 @@ impl Head {
     ) -> Self
         ensures { λ r. ⌜ r ≡ newHead dim branching «leaf_cap» «max_leaves» feature dist abs threshold ⌝ }
     {
-        let counters = Counters {
-            nodes: 1,
-            entries: 0,
-            root: 0,
-            threshold,
-            rebuilds: 0,
-            merged: 0,
-        };
+        let counters = Counters::new(threshold);
         Head {
             dim,
             branching,

@@ -58,6 +58,6 @@ impl Head {
         if !are_choices_within(self) {
             return false;
         }
-        is_threshold_within(self.counters.threshold)
+        is_threshold_within(self.counters.running.threshold)
     }
 }

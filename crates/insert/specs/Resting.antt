@@ -1,6 +1,6 @@
 -- A tree between calls with room for so many rows more, and what one row asks of it.
 use Prim.Native.Nat.{ℕ, suc, _+_, _≤_, _<_}
-use mathlib.Core.Path.{_≡_, ap}
+use mathlib.Core.Path.{_≡_, sym, subst}
 use mathlib.Core.List.{List}
 use native.Mathlib.Omega.{arith}
 use borrow.Author.Tests.{lt-ltb, le-ltb}
@@ -13,7 +13,7 @@ use Rattle.head.specs.Sizes.{entryCap}
 use Rattle.rules.specs.Tree.{Tree}
 use Rattle.rules.specs.Insert.{grown}
 use Rattle.rules.specs.Rebuild.{rebuilt, inserted}
-use Rattle.laws.specs.Counters.{grown-counters}
+use Rattle.laws.specs.Running.{grown-running, Below}
 use Rattle.laws.specs.Invariant.Sound.{caps-of}
 use Rattle.laws.specs.Inserting.First.{grown-holds}
 use Rattle.laws.specs.Room.Kept.{one-more}
@@ -44,14 +44,12 @@ module _ (s : Settings) (x : List Float) (t : Tree) where
     rest-rebuilds z h =
         let one = one-more s x t in
         let few = r .rests .few in
-        let merged = ap (λ c. c .2) (grown-counters s x t) in
-        let unsettled = r .rests .unsettled in
         record {
           rows = suc (r .rows);
           whole = grown-holds s x t (r .rows) (caps-of z) (r .rests .holds) some-room;
           more = h;
           few = omega arith;
-          unsettled = omega arith;
+          below = subst (Below s) (sym (grown-running s x t)) (r .rests .below);
         }
 
     pub rest-next : Sized s → Resting s more (inserted s x t)

@@ -24,7 +24,7 @@ use Rattle.rules.specs.declared.Nearest.the-variants.{Entry, Nothing}
 use Rattle.rules.specs.declared.Pair.{Pair}
 use Rattle.rules.specs.declared.Verdict.the-variants.{Passes}
 use Rattle.rules.specs.Lists.{changeAt, snoc, occurs, every, rowsOf}
-use Rattle.rules.specs.Tree.{push, merge, distTo, Tree, nodeAt, entryAt, withEntries, withMerged}
+use Rattle.rules.specs.Tree.{push, merge, distTo, Tree, nodeAt, entryAt, withEntries, onRunning}
 use Rattle.rules.specs.Descent.{searched, leafFor, alongPath}
 use Rattle.rules.specs.Insert.{grown, absorbs}
 use Rattle.rules.specs.Pairs.{sorted, siblings, cousins}
@@ -35,6 +35,7 @@ use Rattle.rules.specs.Check.{checked, leafLists}
 use Rattle.rules.specs.Calls.{Lent, Left, Written, Listed, lentTree, created, rowInserted, batchInserted, batchRefitted, routed, spreadWritten, validated, listed}
 use Rattle.counting.specs.Count.{is}
 use Rattle.counting.specs.Places.{placeIn}
+use Rattle.head.specs.Counting.{withMerged}
 
 -- ---- whose each row is: an account beside the tree, the owner of each row in order of arrival, moved by the numbers that each step uses
 
@@ -64,7 +65,7 @@ unfoldable pub reinsertedTo : Settings → Tree → ℕ → ℕ
 reinsertedTo s t c = placeIn (reverse (collected t (length (t .nodes)) (t .root ∷ []))) c
 
 unfoldable pub rebalancedTo : Settings → Bool → Tree → ℕ → ℕ
-rebalancedTo s across t c = cond (across || leb (s .«max_leaves») (t .merged)) (reinsertedTo s (withMerged 0 t) c) c
+rebalancedTo s across t c = cond (across || leb (s .«max_leaves») (t .running .merged)) (reinsertedTo s (onRunning (withMerged 0) t) c) c
 
 unfoldable pub compactedTo : Settings → Bool → Tree → Merging → ℕ → ℕ
 compactedTo s across t m c = cond (eqb (m .count) 0) c (rebalancedTo s across (dropped (m .alive) (withMerges t m)) (renumber (m .alive) c))

@@ -23,6 +23,7 @@ use Rattle.laws.specs.Invariant.Height.{height}
 pub use Rattle.laws.specs.Invariant.Beneath.{Frame, frame-of, kid-below, entry-below, leaves-sum, inners-sum}
 use Rattle.laws.specs.Inserting.Grown.{climb-keeps}
 use Rattle.laws.specs.Inserting.First.{emptyTree, Holding}
+use Rattle.head.specs.declared.Running.{Running}
 pub use Rattle.laws.specs.Inserting.First.{rowPlaced, PlacedRow, row-placed, grown-holds}
 pub use Rattle.laws.specs.Splitting.Up.{next-looking, next-in}
 pub use Rattle.laws.specs.Room.Nodes.{room-links, Roomy, links-roomy, Splitting, splitting-roomy}
@@ -49,35 +50,35 @@ settled-sure s t R total g = record {
   fits = (λ n l. let a = g .links .caps n l in omega arith);
 }
 
-empty-sure : (s : Settings) (z : Summary) (h : Float) (r m : ℕ) → Sure s (emptyTree z h r m)
+empty-sure : (s : Settings) (z : Summary) (r : Running) → Sure s (emptyTree z r)
 unfolding nodeAt occurs
-empty-sure s z h r m = record { root-in = omega arith; filled = fl; nodes-in = ni; entries-in = ei; parent-in = pi; fits = ft }
+empty-sure s z r = record { root-in = omega arith; filled = fl; nodes-in = ni; entries-in = ei; parent-in = pi; fits = ft }
   where
     t : Tree
-    t = emptyTree z h r m
+    t = emptyTree z r
 
-    fl : (n : ℕ) → n < 1 → nodeAt (emptyTree z h r m) n .leaf ≡ false → 0 < length (nodeAt (emptyTree z h r m) n .list)
+    fl : (n : ℕ) → n < 1 → nodeAt (emptyTree z r) n .leaf ≡ false → 0 < length (nodeAt (emptyTree z r) n .list)
     fl zero l f = absurd (true≢false f)
     fl (suc n) l f = absurd (omega arith)
 
-    ni : (n c : ℕ) → n < 1 → nodeAt (emptyTree z h r m) n .leaf ≡ false → 0 < occurs c (nodeAt (emptyTree z h r m) n .list) → c < 1
+    ni : (n c : ℕ) → n < 1 → nodeAt (emptyTree z r) n .leaf ≡ false → 0 < occurs c (nodeAt (emptyTree z r) n .list) → c < 1
     ni zero c l f o = absurd (true≢false f)
     ni (suc n) c l f o = absurd (omega arith)
 
-    ei : (n c : ℕ) → n < 1 → nodeAt (emptyTree z h r m) n .leaf ≡ true → 0 < occurs c (nodeAt (emptyTree z h r m) n .list) → c < 0
+    ei : (n c : ℕ) → n < 1 → nodeAt (emptyTree z r) n .leaf ≡ true → 0 < occurs c (nodeAt (emptyTree z r) n .list) → c < 0
     ei zero c l f o = absurd (let q : 1 ≤ 0 = o in omega arith)
     ei (suc n) c l f o = absurd (omega arith)
 
-    pi : (n p : ℕ) → n < 1 → nodeAt (emptyTree z h r m) n .parent ≡ some p → p < 1
+    pi : (n p : ℕ) → n < 1 → nodeAt (emptyTree z r) n .parent ≡ some p → p < 1
     pi zero p l e = absurd (Option·none-ne-some p e)
     pi (suc n) p l e = absurd (omega arith)
 
-    ft : (n : ℕ) → n < 1 → length (nodeAt (emptyTree z h r m) n .list) ≤ cap s (nodeAt (emptyTree z h r m) n .leaf)
+    ft : (n : ℕ) → n < 1 → length (nodeAt (emptyTree z r) n .list) ≤ cap s (nodeAt (emptyTree z r) n .leaf)
     ft zero l = omega arith
     ft (suc n) l = absurd (omega arith)
 
 pub sure-of : (s : Settings) (t : Tree) (total : ℕ) → Holding s t total → Sure s t
-sure-of s t total (inl b) = let q = b .0 in subst (λ u. Sure s u) (sym (q .5)) (empty-sure s (q .0) (q .1) (q .2) (q .3))
+sure-of s t total (inl b) = let q = b .0 in subst (λ u. Sure s u) (sym (q .is)) (empty-sure s (q .summary) (t .running))
 sure-of s t total (inr w) = settled-sure s t (w .0) total (w .1)
 
 -- the links are a frame for some ranks
@@ -131,13 +132,13 @@ settled-standing s t R total g few = linked-standing s t R (g .links) few
 abbrev AtLeaf : Settings → (Summary → Float) → Tree → Type 0
 AtLeaf s f t = (leafFor t f < length (t .nodes)) × (nodeAt t (leafFor t f) .leaf ≡ true)
 
-empty-leaf : (s : Settings) (f : Summary → Float) (z : Summary) (h : Float) (r m : ℕ) → AtLeaf s f (emptyTree z h r m)
+empty-leaf : (s : Settings) (f : Summary → Float) (z : Summary) (r : Running) → AtLeaf s f (emptyTree z r)
 unfolding leafFor descended nodeAt
-empty-leaf s f z h r m = (omega arith, refl)
+empty-leaf s f z r = (omega arith, refl)
 
 pub leaf-of : (s : Settings) (t : Tree) (total : ℕ) (f : Summary → Float) → Holding s t total
     → (leafFor t f < length (t .nodes)) × (nodeAt t (leafFor t f) .leaf ≡ true)
-leaf-of s t total f (inl b) = let q = b .0 in subst (AtLeaf s f) (sym (q .5)) (empty-leaf s f (q .0) (q .1) (q .2) (q .3))
+leaf-of s t total f (inl b) = let q = b .0 in subst (AtLeaf s f) (sym (q .is)) (empty-leaf s f (q .summary) (t .running))
 leaf-of s t total f (inr w) = leaf-found s t f (w .0) nil nil nil (w .1 .links)
 
 pub path-kids : (F : Summary → Summary) (l : ℕ) (t : Tree) (k : ℕ) → nodeAt (alongPath F l t) k .list ≡ nodeAt t k .list

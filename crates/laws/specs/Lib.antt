@@ -1,6 +1,6 @@
 -- Demand 3 over the rules: `Demand` states it, the rest proves it.
 pub mod Demand
-pub mod Counters
+pub mod Running
 pub mod Summaries
 pub mod Shapes
 pub mod Invariant

@@ -14,7 +14,7 @@ use Rattle.rules.specs.declared.Nearest.{Nearest}
 use Rattle.rules.specs.declared.Nearest.the-variants.{Entry, Nothing}
 use Rattle.rules.specs.Lists.{changeAt, snoc, keep, flip, every}
 use Rattle.rules.specs.Tree.{Node, Tree, push, merge, distTo, distBetween, nodeAt, entryAt, blankNode, child}
-use Rattle.rules.specs.Tree.{withNodes, withEntries, withRoot, withMerged, summed, listing, adding, under}
+use Rattle.rules.specs.Tree.{withNodes, withEntries, withRoot, onRunning, summed, listing, adding, under}
 use Rattle.rules.specs.Descent.{searched, leafFor, climbed, alongPath}
 use Rattle.rules.specs.Split.{gathered, stays, adopted, half, parted, split, crowned, fitting, splitNext, splitIf, splitUp, settled}
 use Rattle.rules.specs.Insert.{begun, absorbed, absorbs, absorbedOrBegun, placed, grownAt, grown}
@@ -27,6 +27,7 @@ use Rattle.rules.specs.Rebuild.{compacted, mergedBy, mergedWith, counted, rebui
 use Rattle.rules.specs.Refit.{route, poured, reaccumulated, used, anyHollow, refitRounds, refitted}
 use Rattle.counting.specs.Count.{either}
 use Rattle.counting.specs.All.{All, all-map, all-at, all-change, all-back, all-take, all-keep, all-drop, all-append, all-set}
+use Rattle.head.specs.Counting.{withMerged}
 
 abbrev OfNode : (Summary → Type 0) → Node → Type 0
 OfNode Q n = Q (n .summary)
@@ -225,13 +226,13 @@ module _ (s : Settings) (Q : Summary → Type 0) (none-q : Q blank) (push-q : (x
       pruned-q (n ∷ ns) h = (unfold pruned listing in h .0, pruned-q ns (h .1))
 
   rebalanced-q : (across : Bool) (t : Tree) → Throughout Q t → Throughout Q (rebalanced s across t)
-  unfolding rebalanced withMerged
+  unfolding rebalanced onRunning
   rebalanced-q across t h =
-      either (Throughout Q) (across || leb (s .«max_leaves») (t .merged)) (reinserted s (withMerged 0 t)) t
-      (reinserted-q (withMerged 0 t) (record { nodes = h .nodes; entries = h .entries })) h
+      either (Throughout Q) (across || leb (s .«max_leaves») (t .running .merged)) (reinserted s (onRunning (withMerged 0) t)) t
+      (reinserted-q (onRunning (withMerged 0) t) (record { nodes = h .nodes; entries = h .entries })) h
 
   by-q : (across : Bool) (ps : List Pair) (t : Tree) → Throughout Q t → Throughout Q (mergedBy s across ps t)
-  unfolding mergedBy compacted withMerges
+  unfolding mergedBy compacted withMerges onRunning withEntries
   by-q across ps t h =
       let m = mergeAll s _ (sorted ps) (record { entries = t .entries; alive = map (λ _. true) (t .entries); count = 0; widest = f0 }) in
       either (Throughout Q) (eqb (m .count) 0) t (rebalanced s across (dropped (m .alive) (withMerges t m))) h
@@ -244,7 +245,7 @@ module _ (s : Settings) (Q : Summary → Type 0) (none-q : Q blank) (push-q : (x
   with-q (p ∷ ps) t h = by-q false (p ∷ ps) t h
 
   rebuilt-q : (t : Tree) → Throughout Q t → Throughout Q (rebuilt s t)
-  unfolding rebuilt counted
+  unfolding rebuilt counted onRunning
   rebuilt-q t h =
       let v = mergedWith s (siblings s t (t .nodes)) t in
       let r = refolded-q v (with-q (siblings s t (t .nodes)) t h) in

@@ -103,7 +103,7 @@ module _ (h : Head) (ok : Taken h) (fs : List Float) (ks : List ℕ) (floats-roo
   s = settingsOf h
 
   abbrev x : Float
-  x = h .counters .threshold
+  x = h .counters .running .threshold
 
   sized : Sized s
   sized = allowed-sized h (ok .1)
@@ -141,7 +141,7 @@ module _ (h : Head) (ok : Taken h) (fs : List Float) (ks : List ℕ) (floats-roo
   first-some : (l : List ℕ) (ls : List (List ℕ)) → firstLine l ≡ some h → linesListed (l ∷ ls) ≡ rowsListed s 2 ls (fresh x)
   unfolding linesListed
   first-some l ls e =
-      let f : Option Head → List ℕ = λ o. elim o [ none ↦ badLine 1 | some h ↦ rowsListed (settingsOf h) 2 ls (fresh (h .counters .threshold)) ] in
+      let f : Option Head → List ℕ = λ o. elim o [ none ↦ badLine 1 | some h ↦ rowsListed (settingsOf h) 2 ls (fresh (h .counters .running .threshold)) ] in
       ap f e
 
   -- the run behind line 1

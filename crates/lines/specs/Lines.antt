@@ -55,7 +55,7 @@ longer p (b ∷ rest) h = longer-case (eqb b 10) b p rest refl (longer (b ∷ p)
 pub first-none : (l : List ℕ) (ls : List (List ℕ)) → firstLine l ≡ none → linesListed (l ∷ ls) ≡ badLine 1
 unfolding linesListed
 first-none l ls e =
-    let f : Option Head → List ℕ = λ o. elim o [ none ↦ badLine 1 | some h ↦ rowsListed (settingsOf h) 2 ls (fresh (h .counters .threshold)) ] in
+    let f : Option Head → List ℕ = λ o. elim o [ none ↦ badLine 1 | some h ↦ rowsListed (settingsOf h) 2 ls (fresh (h .counters .running .threshold)) ] in
     ap f e
 
 pub row-none : (s : Settings) (n : ℕ) (t : Tree) (l : List ℕ) (ls : List (List ℕ)) → lineIn s t l ≡ none → rowsListed s n (l ∷ ls) t ≡ badLine n

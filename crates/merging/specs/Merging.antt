@@ -13,12 +13,12 @@ use Rattle.feature.specs.Summaries.{blank}
 use Rattle.feature.specs.declared.Summary.{Summary}
 use Rattle.head.specs.declared.Settings.{Settings}
 use Rattle.head.specs.declared.Counters.{Counters}
-use Rattle.head.specs.Counting.{countMerged, thresholdAt}
+use Rattle.head.specs.Counting.{countRunning}
 use Rattle.rules.specs.declared.Pair.{Pair}
 use Rattle.rules.specs.Lists.{changeAt}
 use Rattle.rules.specs.ListLaws.{table-at}
-use Rattle.rules.specs.Tree.{Tree, merge, absBetween, entryAt, withEntries}
-use Rattle.rules.specs.Rebuild.{Merging, widened, mergeOne, bothAlive, mergeAll, grownThreshold, withMerges}
+use Rattle.rules.specs.Tree.{Tree, merge, absBetween, entryAt, withEntries, onRunning}
+use Rattle.rules.specs.Rebuild.{Merging, widened, mergeOne, bothAlive, mergeAll, withMerges, mergesOn}
 use Rattle.rules.specs.Slices.{treeOf}
 use Rattle.laws.specs.Rebuilding.Merge.{Every}
 use Rattle.arena.specs.Trees.{AnyLinks, FloatsTo, onEntry, count-entries}
@@ -26,6 +26,7 @@ use Rattle.scratch.specs.Stored.{pairAt, pairsIn, length-pairs}
 use Rattle.scratch.specs.Flags.{aliveAt, aliveIn, alive-is, alive-all, flags-set}
 use Rattle.scratch.specs.Flags.{PairBelow, PairsBelow, pairs-below, SamePairs, same-none, same-flag, same-more}
 use Rattle.merging.specs.declared.merges.Merges.{Merges}
+use Rattle.arena.specs.Writes.{tree-running}
 
 -- ---- where the merges stand
 
@@ -239,20 +240,10 @@ start-all s n fs ls =
 -- with the counters that the merges give
 pub merges-counted : (s : Settings) (n : Counters) (fs gs : List Float) (ls : List ℕ) (bs : List Bool) (r : Merges) (m : Merging)
     → Ended (treeOf s n fs ls) (treeOf s n gs ls) bs r m
-    → treeOf s (countMerged (n .merged + r .count) (thresholdAt (grownThreshold (n .threshold) (r .widest)) n)) gs ls ≡ withMerges (treeOf s n fs ls) m
-unfolding treeOf countMerged thresholdAt withMerges withEntries
-merges-counted s n fs gs ls bs r m e = rw (e .count, e .widest) (ap (counted (m .count) (m .widest)) (e .tree))
-  where
-    counted : ℕ → Float → Tree → Tree
-    counted c w t =
-        record {
-          nodes = t .nodes;
-          entries = t .entries;
-          root = t .root;
-          threshold = grownThreshold (t .threshold) w;
-          rebuilds = t .rebuilds;
-          merged = t .merged + c;
-        }
+    → treeOf s (countRunning (mergesOn (r .count) (r .widest)) n) gs ls ≡ withMerges (treeOf s n fs ls) m
+unfolding withMerges
+merges-counted s n fs gs ls bs r m e =
+    tree-running s n (mergesOn (r .count) (r .widest)) gs ls ∙ rw (e .count, e .widest) (ap (onRunning (mergesOn (m .count) (m .widest))) (e .tree))
 
 -- what every pair is, each pair in scratch is
 pub every-below : (P : Pair → Type 0) (e : ℕ) → ((p : Pair) → P p → (p .one < e) × (p .two < e)) → (cs : List Float) (ns : List ℕ) (n : ℕ)

@@ -19,6 +19,7 @@ use Rattle.text.specs.Rows.{RowRead, floatsIn, floats-short}
 use Rattle.reasons.specs.declared.Reason.{Reason}
 use Rattle.reasons.specs.declared.Reason.the-variants as R
 use Rattle.reasons.specs.Reasons.{endsInReturn, isSome, sizeIn, settingAt, floatAt, wrongAt, reasonOf, firstReason, rowReason}
+use Rattle.head.specs.Counting.{newRunning}
 
 -- ---- every field is as asked
 
@@ -127,7 +128,7 @@ size-is least most (some n) e = (n, refl, e)
 -- a head whose threshold is right as well is taken
 all-taken : (d b l m f g a : ℕ) (x : Float) → within 1 8 d ≡ true → within 2 16 b ≡ true → within 1 16 l ≡ true → within 1 24 m ≡ true
     → f < 2 → g < 6 → a < 6 → thresholdWithin x ≡ true → taken (newHead d b l m f g a x) ≡ some (newHead d b l m f g a x)
-unfolding allowed sizesWithin choicesWithin newHead newCounters within
+unfolding allowed sizesWithin choicesWithin newHead newCounters newRunning within
 all-taken d b l m f g a x p q r s t u v w =
     let (one, few) = both (leb 1 m) (leb m 24) s in
     let k = leb-true m 24 few in

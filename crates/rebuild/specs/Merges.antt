@@ -10,7 +10,7 @@ use lib.ListN.{length, replicate}
 use lib.Ieee.{Float}
 use Rattle.head.specs.declared.Settings.{Settings}
 use Rattle.head.specs.declared.Counters.{Counters}
-use Rattle.head.specs.Counting.{thresholdAt, countMerged}
+use Rattle.head.specs.Counting.{countRunning}
 use Rattle.rules.specs.declared.Pair.{Pair}
 use Rattle.rules.specs.Tree.{Tree, withEntries}
 use Rattle.rules.specs.Slices.{treeOf}
@@ -102,7 +102,7 @@ module _ (s : Settings) (n : Counters) (ps : List Pair) (r : Merges) (fs gs : Li
 
   pub merged-some : (d : Counters) (across : Bool) → d ≡ mergedCounts r n → ¬ (r .count ≡ 0)
       → rebalanced s across (dropped (aliveIn ms (d .entries)) (treeOf s d gs ls)) ≡ mergedBy s across ps (treeOf s n fs ls)
-  unfolding mergedBy compacted allMerges mergedCounts countMerged thresholdAt
+  unfolding mergedBy compacted allMerges mergedCounts countRunning
   merged-some d across e z =
       let t = treeOf s n fs ls in
       let some : eqb (allMerges s ps t .count) 0 ≡ false = ne-eqb (allMerges s ps t .count) 0 (λ e. z (ended .count ∙ e)) in

@@ -11,9 +11,9 @@ use Rattle.head.specs.declared.Settings.{Settings}
 use Rattle.head.specs.declared.Counters.{Counters}
 use Rattle.head.specs.Limits.{Sized}
 use Rattle.head.specs.Sizes.{entryCap}
-use Rattle.head.specs.Counting.{thresholdAt, countMerged}
+use Rattle.head.specs.Counting.{countRunning, withMerged}
 use Rattle.rules.specs.declared.Pair.{Pair}
-use Rattle.rules.specs.Tree.{Tree, withMerged}
+use Rattle.rules.specs.Tree.{Tree, onRunning}
 use Rattle.rules.specs.Slices.{treeOf}
 use Rattle.rules.specs.Pairs.{siblings, cousins}
 use Rattle.rules.specs.Refold.{refolded}
@@ -34,13 +34,14 @@ use Rattle.reinsert.specs.Whole.{Reinsertable}
 use Rattle.reinsert.specs.Thinned.{thinned, merged-reinsertable}
 use Rattle.rebuild.specs.Counted.{mergedCounts, countedUp, counted-is}
 use Rattle.rebuild.specs.Merges.{AllMerged, allMerges, ended, merges-made}
+use Rattle.laws.specs.Running.{Below}
 
 -- ---- what is asked
 
 -- the tree without the merged-away entries can be placed again
 pub record Compactable (s : Settings) (n : Counters) (alive : List Bool) (t : Tree) : Type 0 where
   pub leaves : LeavesIn n t
-  pub again : Reinsertable s (withMerged 0 (dropped alive t))
+  pub again : Reinsertable s (onRunning (withMerged 0) (dropped alive t))
 
 -- a tree that holds so many rows, one entry over M
 pub record Rebuildable (s : Settings) (t : Tree) : Type 0 where
@@ -48,7 +49,7 @@ pub record Rebuildable (s : Settings) (t : Tree) : Type 0 where
   pub whole : Whole s t rows
   pub more : s .«max_leaves» < length (t .entries)
   pub few : length (t .entries) ≤ entryCap s
-  pub unsettled : t .merged < s .«max_leaves»
+  pub below : Below s (t .running)
 
 -- so many pairs of its entries
 pub record Mergeable (s : Settings) (pairs : ℕ) (ps : List Pair) (t : Tree) : Type 0 where
@@ -125,22 +126,22 @@ module _ (s : Settings) (t : Tree) (cs : List Float) (ns : List ℕ) where
 
 module _ (s : Settings) (n : Counters) (pairs : ℕ) (ps : List Pair) (r : Merges) (fs gs : List Float) (ms ls : List ℕ)
     (w : Mergeable s pairs ps (treeOf s n fs ls)) (h : AllMerged s n ps r fs gs ms) where
-  pub total-few : Sized s → n .merged + r .count ≤ 4294967296
+  pub total-few : Sized s → n .running .merged + r .count ≤ 4294967296
   unfolding allMerges treeOf entryCap
   total-few z =
       let count = ended s n ps r fs gs ms ls h .count in
       let most = merges-few s (treeOf s n fs ls) (w .tree) ps (w .far) in
       let few = w .tree .few in
-      let merged = w .tree .unsettled in
+      let merged = w .tree .below in
       let limit = z .most-few in
       omega arith
 
   pub merges-compactable : (d : Counters) → d ≡ mergedCounts r n → Compactable s d (aliveIn ms (d .entries)) (treeOf s d gs ls)
-  unfolding mergedCounts countMerged thresholdAt allMerges
+  unfolding mergedCounts countRunning allMerges
   merges-compactable d e = rw e record {
     leaves = leaves-same s n (mergedCounts r n) fs gs ls refl refl (leaves-framed s n fs ls (tree-framed s (treeOf s n fs ls) (w .tree)));
     again =
         subst (Reinsertable s)
-        (ap₂ (λ bs u. withMerged 0 (dropped bs u)) (sym (ended s n ps r fs gs ms ls h .alive)) (sym (merges-made s n ps r fs gs ms ls h)))
+        (ap₂ (λ bs u. onRunning (withMerged 0) (dropped bs u)) (sym (ended s n ps r fs gs ms ls h .alive)) (sym (merges-made s n ps r fs gs ms ls h)))
         (left-again s (treeOf s n fs ls) (w .tree) ps (w .far));
   }

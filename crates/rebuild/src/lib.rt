@@ -41,21 +41,22 @@ fn wanted(s: Settings, entries: usize) -> usize
 
 // The counters after the merges: the threshold grown, the merged total with them.
 fn merged(n: Counters, w: Merges) -> Counters
-    requires { ⌜ n .merged + w .count ≤ 4294967296 ⌝ }
+    requires { ⌜ n .running .merged + w .count ≤ 4294967296 ⌝ }
     ensures { λ r. ⌜ r ≡ mergedCounts w n ⌝ }
 {
-    let threshold = threshold::grown(n.threshold, w.widest);
-    n.with_threshold(threshold).with_merged(n.merged + w.count)
+    let threshold = threshold::grown(n.running.threshold, w.widest);
+    n.with_threshold(threshold)
+        .with_merged(n.running.merged + w.count)
 }
 
 // Whether all entries are due to be placed again: cousins were used, or the merged total reaches M.
 fn due(s: Settings, n: Counters, across: bool) -> bool
-    ensures { λ r. ⌜ r ≡ (across || leb (s .«max_leaves») (n .merged)) ⌝ }
+    ensures { λ r. ⌜ r ≡ (across || leb (s .«max_leaves») (n .running .merged)) ⌝ }
 {
     if across {
         return true;
     }
-    s.max_leaves <= n.merged
+    s.max_leaves <= n.running.merged
 }
 
 // The merged-away entries dropped, and all others placed again where it is due.
@@ -155,7 +156,7 @@ fn merge(
 fn counted(n: Counters) -> Counters
     ensures { λ r. ⌜ r ≡ countedUp n ⌝ }
 {
-    let r = n.rebuilds;
+    let r = n.running.rebuilds;
     if r < 0xffff_ffff_ffff_ffff {
         n.with_rebuilds(r + 1)
     } else {

@@ -7,7 +7,7 @@ use native.Mathlib.Omega.{arith}
 use lib.ListN.{length, getD, length-map, List·getD-map}
 use Rattle.head.specs.declared.Settings.{Settings}
 use Rattle.head.specs.Sizes.{entryCap}
-use Rattle.rules.specs.Tree.{Tree, nodeAt, blankNode, withNodes, withEntries, withMerged, listing}
+use Rattle.rules.specs.Tree.{Tree, nodeAt, blankNode, withNodes, withEntries, onRunning, listing}
 use Rattle.rules.specs.Rebuild.{Merging, keepNumbers, pruned, dropped, withMerges}
 use Rattle.counting.specs.Sums.{sumTo, sum-same}
 use Rattle.laws.specs.Invariant.Sound.{Settled}
@@ -16,6 +16,7 @@ use Rattle.laws.specs.Rebuilding.Merge.{Merged}
 use Rattle.laws.specs.Rebuilding.Rebuilt.{frame-w, rows-w, counted-w, length-w, pos-w}
 use Rattle.laws.specs.ForCode.{leafCount, Framed, Standing, settled-standing}
 use Rattle.reinsert.specs.Whole.{Reinsertable}
+use Rattle.head.specs.Counting.{withMerged}
 
 -- u has the nodes of t, its leaves without the entries whose flag is down
 module _ (s : Settings) (t u : Tree) (bs : List Bool) (nodes : u .nodes ≡ map (pruned bs) (t .nodes)) (root : u .root ≡ t .root) where
@@ -58,14 +59,14 @@ module _ (s : Settings) (t u : Tree) (bs : List Bool) (nodes : u .nodes ≡ map 
 
 module _ (s : Settings) (t : Tree) (m : Merging) where
   abbrev pub thinned : Tree
-  thinned = withMerged 0 (dropped (m .alive) (withMerges t m))
+  thinned = onRunning (withMerged 0) (dropped (m .alive) (withMerges t m))
 
   same-nodes : thinned .nodes ≡ map (pruned (m .alive)) (t .nodes)
-  unfolding withMerged dropped withMerges withEntries withNodes
+  unfolding onRunning dropped withMerges withEntries withNodes
   same-nodes = refl
 
   same-root : thinned .root ≡ t .root
-  unfolding withMerged dropped withMerges withEntries withNodes
+  unfolding onRunning dropped withMerges withEntries withNodes
   same-root = refl
 
   module _ {R : ℕ → ℕ} {total : ℕ} (g : Settled s t R total) (n : Counted t total) (d : Merged s (length (t .entries)) total m)

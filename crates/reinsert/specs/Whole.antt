@@ -84,7 +84,7 @@ module _ (s : Settings) (t : Tree) {es : List Summary} {u : Tree} (g : Reinserta
       rw (p, q)
       record {
         total = 0;
-        ready = inl (blank, t .threshold, t .rebuilds, t .merged, blank-exact, refl, refl);
+        ready = inl (blank, blank-exact, refl, refl);
         rows = list-rows t (g .total) caps frame (g .rows) (g .counted) (g .small) (g .some);
         few = omega arith;
         room = omega arith;

@@ -177,14 +177,11 @@ fn counters() -> Counters {
     let entries = word() as usize;
     let root = word() as usize;
     let merged = word() as usize;
-    Counters {
-        nodes,
-        entries,
-        root,
-        threshold: 0.0,
-        rebuilds: 0,
-        merged,
-    }
+    Counters::new(0.0)
+        .with_nodes(nodes)
+        .with_entries(entries)
+        .with_root(root)
+        .with_merged(merged)
 }
 
 // Reads the rest of a vector that begins with dim, and checks its tree.

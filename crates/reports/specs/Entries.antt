@@ -180,12 +180,12 @@ module _ {s : Settings} {n : Counters} {fs : List Float} {ls : List ℕ} (r : En
 
 -- the whole report
 pub report-is : {h : Head} {total : ℕ} {fs : List Float} {ls : List ℕ} → Reportable h total fs ls
-    → countsLine (h .counters .entries) (h .counters .threshold) (h .counters .rebuilds) total ++ entryLines (settingsOf h) 0 (lentTree h fs ls .entries)
+    → countsLine (h .counters .entries) (h .counters .running .threshold) (h .counters .running .rebuilds) total ++ entryLines (settingsOf h) 0 (lentTree h fs ls .entries)
     ≡ report (settingsOf h) (lentTree h fs ls)
 unfolding report countsLine lentTree treeOf
 report-is {h} {total} {fs} {ls} r =
     let n = h .counters in
     let es = treeOf (settingsOf h) n fs ls .entries in
-    ap (λ k. lineOf (decimalOf k ∷ hexOf (n .threshold) ∷ decimalOf (n .rebuilds) ∷ decimalOf total ∷ []) ++ entryLines (settingsOf h) 0 es)
+    ap (λ k. lineOf (decimalOf k ∷ hexOf (n .running .threshold) ∷ decimalOf (n .running .rebuilds) ∷ decimalOf total ∷ []) ++ entryLines (settingsOf h) 0 es)
     (sym (count-entries (settingsOf h) n fs ls))
-    ∙ ap (λ k. lineOf (decimalOf (length es) ∷ hexOf (n .threshold) ∷ decimalOf (n .rebuilds) ∷ decimalOf k ∷ []) ++ entryLines (settingsOf h) 0 es) (r .total-is)
+    ∙ ap (λ k. lineOf (decimalOf (length es) ∷ hexOf (n .running .threshold) ∷ decimalOf (n .running .rebuilds) ∷ decimalOf k ∷ []) ++ entryLines (settingsOf h) 0 es) (r .total-is)

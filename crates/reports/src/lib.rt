@@ -45,6 +45,12 @@ pub fn write_report(h: Head, total: u64, floats: &[f64], links: &[u32], out: &mu
         Wrote 0 (report (settingsOf h) (lentTree h (now (floats .entry)) (now (links .entry)))) (now (out .entry)) (now (out .exit)) r ⌝ }
 {
     let n = h.counters;
-    let at = write_counts(n.entries, n.threshold, n.rebuilds, total, out);
+    let at = write_counts(
+        n.entries,
+        n.running.threshold,
+        n.running.rebuilds,
+        total,
+        out,
+    );
     entries::write_entries(h.settings(), n, floats, links, out, at)
 }

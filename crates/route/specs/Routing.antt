@@ -30,7 +30,7 @@ pub rest-routable : (s : Settings) (t : Tree) (rows : ℕ) → AtRest s t rows �
 rest-routable s t rows r h = go (r .holds)
   where
     go : Holding s t rows → Routable s t
-    go (inl b) = let none : length (t .entries) ≡ 0 = ap (λ u. length (u .entries)) (b .0 .5) in absurd (omega arith)
+    go (inl b) = let none : length (t .entries) ≡ 0 = ap (λ u. length (u .entries)) (b .0 .is) in absurd (omega arith)
     go (inr w) = record { rows = rows; whole = w }
 
 pub routable-sure : (s : Settings) (t : Tree) → Routable s t → Sure s t

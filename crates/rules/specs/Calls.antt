@@ -141,7 +141,7 @@ pub record Made : Type 0 where
 unfoldable pub madeBy : List Refusal → Head → List Float → List ℕ → Made
 madeBy [] h fs ls =
     let s = settingsOf h in
-    let threshold = h .counters .threshold in
+    let threshold = h .counters .running .threshold in
     record {
       head = withCounters h (newCounters threshold);
       answer = Accepted;

@@ -16,6 +16,7 @@ use Rattle.rules.specs.Tree.{Node, Tree, nodeAt, entryAt, cap}
 use Rattle.rules.specs.Reinsert.{collected}
 use Rattle.rules.specs.declared.Verdict.{Verdict}
 use Rattle.rules.specs.declared.Verdict.the-variants.{Passes, Fails}
+use Rattle.head.specs.declared.Running.{Running}
 
 -- 1. Node count 1 to N, entry count 0 to M.
 unfoldable pub sized : Settings → Tree → Bool
@@ -108,8 +109,8 @@ unfoldable pub weighed : Tree → Bool
 weighed t = every (λ e. isCount (e .weight)) (t .entries) && leb (totalOf (t .entries)) most && every (weighs t) (upFrom (length (t .nodes)) 0)
 
 -- 8. The merged total is below M.
-unfoldable pub unsettled : Settings → Tree → Bool
-unsettled s t = ltb (t .merged) (s .«max_leaves»)
+unfoldable pub mergedBelow : Settings → Running → Bool
+mergedBelow s r = ltb (r .merged) (s .«max_leaves»)
 
 -- ---- the lowest failing condition
 
@@ -119,4 +120,4 @@ lowest i (true ∷ bs) = lowest (suc i) bs
 lowest i (false ∷ bs) = Fails i
 
 unfoldable pub checked : Settings → Tree → Verdict
-checked s t = lowest 1 (sized s t ∷ rooted t ∷ every (listFits s t) (t .nodes) ∷ linked t ∷ filled t ∷ level t ∷ weighed t ∷ unsettled s t ∷ [])
+checked s t = lowest 1 (sized s t ∷ rooted t ∷ every (listFits s t) (t .nodes) ∷ linked t ∷ filled t ∷ level t ∷ weighed t ∷ mergedBelow s (t .running) ∷ [])

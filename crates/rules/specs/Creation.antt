@@ -56,7 +56,7 @@ made-done (r ∷ rs) h fs ls e = let z : _≡_ {A = ℕ} 0 1 = cc in absurd (ome
 
 module _ (h : Head) (fs : List Float) (ls : List ℕ) (e : created h fs ls .answer ≡ Accepted) where
   abbrev made-tree : Tree
-  made-tree = fresh (h .counters .threshold)
+  made-tree = fresh (h .counters .running .threshold)
 
   made : (createRefusals h fs ls ≡ []) × (created h fs ls ≡ madeBy [] h fs ls)
   unfolding created
@@ -74,4 +74,4 @@ module _ (h : Head) (fs : List Float) (ls : List ℕ) (e : created h fs ls .answ
   -- which stands in the slices, with zeros past its counts and the surplus as lent
   pub created-cleared : Cleared (settingsOf h) made-tree fs (created h fs ls .floats) ls (created h fs ls .links)
   unfolding madeBy
-  created-cleared = rw (made .1) (stored-cleared (settingsOf h) made-sized made-tree (fresh-fits (settingsOf h) (h .counters .threshold)) fs ls)
+  created-cleared = rw (made .1) (stored-cleared (settingsOf h) made-sized made-tree (fresh-fits (settingsOf h) (h .counters .running .threshold)) fs ls)

@@ -20,7 +20,7 @@ use Rattle.head.specs.Limits.{Sized, both}
 use Rattle.head.specs.Sizes.{nodeCap, entryCap, blockWidth, nodes-small}
 use Rattle.rules.specs.Lists.{every}
 use Rattle.rules.specs.Tree.{Tree, blankNode, nodeAt, entryAt, cap}
-use Rattle.rules.specs.Check.{sized, rooted, listFits, linked, filled, level, weighed, unsettled, checked}
+use Rattle.rules.specs.Check.{sized, rooted, listFits, linked, filled, level, weighed, mergedBelow, checked}
 use Rattle.rules.specs.Slices.{eight, summaryIn, noParent, parentIn, parentOut, nodeIn, slotAt, blockAt, treeOf}
 use Rattle.rules.specs.ListLaws.{length-table, table-at}
 use Rattle.rules.specs.Stored.{Fits, slots-in}
@@ -35,7 +35,7 @@ every-at f (x ∷ l) zero d e h = both (f x) (every f l) e .0
 every-at f (x ∷ l) (suc i) d e h = every-at f l i d (both (f x) (every f l) e .1) (omega arith)
 
 module _ (s : Settings) (t : Tree) (ok : checked s t ≡ Passes) where
-  conditions : every (λ b. b) (sized s t ∷ rooted t ∷ every (listFits s t) (t .nodes) ∷ linked t ∷ filled t ∷ level t ∷ weighed t ∷ unsettled s t ∷ []) ≡ true
+  conditions : every (λ b. b) (sized s t ∷ rooted t ∷ every (listFits s t) (t .nodes) ∷ linked t ∷ filled t ∷ level t ∷ weighed t ∷ mergedBelow s (t .running) ∷ []) ≡ true
   unfolding checked
   conditions = lowest-passes 1 _ ok
 

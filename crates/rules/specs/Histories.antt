@@ -45,7 +45,7 @@ nodeSeen s n = parentSeen (n .parent) ∷ cond (n .leaf) 1 0 ∷ length (n .list
 -- the counters, then the nodes, then the entries
 unfoldable pub treeSeen : Settings → Tree → List (List ℕ)
 treeSeen s t =
-    (bits (t .threshold) ∷ t .rebuilds ∷ t .merged ∷ length (t .nodes) ∷ length (t .entries) ∷ t .root ∷ [])
+    (bits (t .running .threshold) ∷ t .running .rebuilds ∷ t .running .merged ∷ length (t .nodes) ∷ length (t .entries) ∷ t .root ∷ [])
     ∷ (map (nodeSeen s) (t .nodes) ++ map (summarySeen s) (t .entries))
 
 -- ---- calls

@@ -24,7 +24,7 @@ absorbed s x e t = withEntries (changeAt (push s x) e (t .entries)) t
 
 -- only the `dist` winner is tested: `abs` ≤ threshold absorbs
 unfoldable pub absorbs : Settings → List Float → ℕ → Tree → Bool
-absorbs s x e t = le (absTo s (entryAt t e) x) (t .threshold)
+absorbs s x e t = le (absTo s (entryAt t e) x) (t .running .threshold)
 
 -- all else begins an entry
 unfoldable pub absorbedOrBegun : Settings → List Float → ℕ → Nearest → Tree → Tree

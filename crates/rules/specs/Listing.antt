@@ -159,7 +159,7 @@ entryLines s i (e ∷ es) = entryLine s i e ++ entryLines s (suc i) es
 -- entry count, threshold, rebuilds, total weight; then the entries
 unfoldable pub report : Settings → Tree → List ℕ
 report s t =
-    lineOf (decimalOf (length (t .entries)) ∷ hexOf (t .threshold) ∷ decimalOf (t .rebuilds) ∷ decimalOf (totalOf (t .entries)) ∷ []) ++ entryLines s 0 (t .entries)
+    lineOf (decimalOf (length (t .entries)) ∷ hexOf (t .running .threshold) ∷ decimalOf (t .running .rebuilds) ∷ decimalOf (totalOf (t .entries)) ∷ []) ++ entryLines s 0 (t .entries)
 
 unfoldable pub badLine : ℕ → List ℕ
 badLine n = lineOf (bytes "bad" ∷ decimalOf n ∷ [])
@@ -173,7 +173,7 @@ rowsListed s n (l ∷ ls) t = elim (lineIn s t l) [ none ↦ badLine n | some u 
 
 unfoldable pub linesListed : List (List ℕ) → List ℕ
 linesListed [] = badLine 1
-linesListed (l ∷ ls) = elim (firstLine l) [ none ↦ badLine 1 | some h ↦ rowsListed (settingsOf h) 2 ls (fresh (h .counters .threshold)) ]
+linesListed (l ∷ ls) = elim (firstLine l) [ none ↦ badLine 1 | some h ↦ rowsListed (settingsOf h) 2 ls (fresh (h .counters .running .threshold)) ]
 
 unfoldable pub rowlist : List ℕ → List ℕ
 rowlist input = linesListed (linesOf input)

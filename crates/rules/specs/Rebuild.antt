@@ -12,12 +12,14 @@ use Rattle.feature.specs.Summaries.{blank}
 use Rattle.feature.specs.declared.Summary.{Summary}
 use Rattle.head.specs.declared.Settings.{Settings}
 use Rattle.rules.specs.Lists.{changeAt, keep, countUp}
-use Rattle.rules.specs.Tree.{Node, Tree, merge, absBetween, withNodes, withEntries, withMerged, listing}
+use Rattle.rules.specs.Tree.{Node, Tree, merge, absBetween, withNodes, withEntries, onRunning, listing}
 use Rattle.rules.specs.Insert.{grown}
 use Rattle.rules.specs.Pairs.{siblings, cousins, sorted}
 use Rattle.rules.specs.declared.Pair.{Pair}
 use Rattle.rules.specs.Reinsert.{reinserted}
 use Rattle.rules.specs.Refold.{refolded}
+use Rattle.head.specs.Counting.{withThreshold, withRebuilds, withMerged}
+use Rattle.head.specs.declared.Running.{Running}
 
 -- max(M − M/10, 1), whole division
 unfoldable pub target : ℕ → ℕ
@@ -87,20 +89,16 @@ dropped alive t = withEntries (keep alive (t .entries)) (withNodes (map (pruned 
 
 -- ---- the rebuild
 
+-- each rebuild's merges raise the threshold and add to the merged total
+unfoldable pub mergesOn : ℕ → Float → Running → Running
+mergesOn count widest r = withMerged (r .merged + count) (withThreshold (grownThreshold (r .threshold) widest) r)
+
 unfoldable pub withMerges : Tree → Merging → Tree
-withMerges t m =
-    record {
-      nodes = t .nodes;
-      entries = m .entries;
-      root = t .root;
-      threshold = grownThreshold (t .threshold) (m .widest);
-      rebuilds = t .rebuilds;
-      merged = t .merged + m .count;
-    }
+withMerges t m = onRunning (mergesOn (m .count) (m .widest)) (withEntries (m .entries) t)
 
 -- reinsert, and set the merged total to 0, if cousins were used or it reaches M
 unfoldable pub rebalanced : Settings → Bool → Tree → Tree
-rebalanced s across t = cond (across || leb (s .«max_leaves») (t .merged)) (reinserted s (withMerged 0 t)) t
+rebalanced s across t = cond (across || leb (s .«max_leaves») (t .running .merged)) (reinserted s (onRunning (withMerged 0) t)) t
 
 unfoldable pub compacted : Settings → Bool → Tree → Merging → Tree
 compacted s across t m = cond (eqb (m .count) 0) t (rebalanced s across (dropped (m .alive) (withMerges t m)))
@@ -116,16 +114,11 @@ mergedWith s [] t = mergedBy s true (cousins s t (t .nodes)) t
 mergedWith s (p ∷ ps) t = mergedBy s false (p ∷ ps) t
 
 -- the u64 rebuild count stops at its top value
+unfoldable pub oneMore : ℕ → ℕ
+oneMore n = cond (ltb n 0xffff_ffff_ffff_ffff) (suc n) n
+
 unfoldable pub counted : Tree → Tree
-counted t =
-    record {
-      nodes = t .nodes;
-      entries = t .entries;
-      root = t .root;
-      threshold = t .threshold;
-      rebuilds = cond (ltb (t .rebuilds) 0xffff_ffff_ffff_ffff) (suc (t .rebuilds)) (t .rebuilds);
-      merged = t .merged;
-    }
+counted t = onRunning (λ r. withRebuilds (oneMore (r .rebuilds)) r) t
 
 unfoldable pub rebuilt : Settings → Tree → Tree
 rebuilt s t = counted (refolded s (mergedWith s (siblings s t (t .nodes)) t))

@@ -18,7 +18,7 @@ collected t (suc k) (n ∷ ns) = elim (nodeAt t n .leaf) [ true ↦ nodeAt t n .
 
 -- an empty tree with the counters kept
 unfoldable pub cleared : Tree → Tree
-cleared t = record { nodes = blankNode ∷ []; entries = []; root = 0; threshold = t .threshold; rebuilds = t .rebuilds; merged = t .merged }
+cleared t = record { nodes = blankNode ∷ []; entries = []; root = 0; running = t .running }
 
 -- the summary e as a new entry, in the leaf that `dist` leads to
 unfoldable pub replaced : Settings → Summary → Tree → Tree

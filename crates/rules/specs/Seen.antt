@@ -64,7 +64,7 @@ lines s i (e ∷ es) = line s i e ∷ lines s (suc i) es
 
 -- entry count, threshold, rebuilds, total weight; then the entries
 unfoldable pub entriesSeen : Settings → Tree → List (List ℕ)
-entriesSeen s t = (length (t .entries) ∷ bits (t .threshold) ∷ t .rebuilds ∷ totalOf (t .entries) ∷ []) ∷ lines s 0 (t .entries)
+entriesSeen s t = (length (t .entries) ∷ bits (t .running .threshold) ∷ t .running .rebuilds ∷ totalOf (t .entries) ∷ []) ∷ lines s 0 (t .entries)
 
 unfoldable pub leavesSeen : List Node → List (List ℕ)
 leavesSeen [] = []

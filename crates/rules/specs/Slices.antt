@@ -83,16 +83,13 @@ treeOf s c fs ls =
       nodes = table (λ i. nodeIn s (slotAt s fs i) (blockAt s ls i)) (c .nodes);
       entries = table (λ i. summaryIn s (slotAt s fs (nodeCap s + i))) (c .entries);
       root = c .root;
-      threshold = c .threshold;
-      rebuilds = c .rebuilds;
-      merged = c .merged;
+      running = c .running;
     }
 
 -- ---- and back: what the needed slots hold, 0 past the counts
 
 unfoldable pub countersOf : Tree → Counters
-countersOf t =
-    record { nodes = length (t .nodes); entries = length (t .entries); root = t .root; threshold = t .threshold; rebuilds = t .rebuilds; merged = t .merged }
+countersOf t = record { nodes = length (t .nodes); entries = length (t .entries); root = t .root; running = t .running }
 
 unfoldable pub floatsOf : Settings → Tree → List Float
 floatsOf s t =

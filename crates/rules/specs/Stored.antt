@@ -193,4 +193,4 @@ module _ (s : Settings) (z : Sized s) where
         (table-is (λ i. summaryIn s (slotAt s (floatsOf s t ++ fs) (nodeCap s + i))) (t .entries) blank (entry-stored fs))
       where
         withBoth : List Node → List Summary → Tree
-        withBoth ns es = record { nodes = ns; entries = es; root = t .root; threshold = t .threshold; rebuilds = t .rebuilds; merged = t .merged }
+        withBoth ns es = record { nodes = ns; entries = es; root = t .root; running = t .running }

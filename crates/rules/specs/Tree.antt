@@ -1,4 +1,4 @@
--- The tree as the Rust has it: numbered nodes, numbered entries, a root, and the counters. A leaf's list names entries, another node's names nodes.
+-- The tree as the Rust has it: numbered nodes, numbered entries, a root, and what runs along. A leaf's list names entries, another node's names nodes.
 use Prim.Native.Nat.{ℕ}
 use mathlib.Core.Bool.{Bool, true, false}
 use mathlib.Core.List.{List, [], _∷_}
@@ -10,6 +10,8 @@ use Rattle.feature.specs.Steps.{pushed, merged}
 use Rattle.feature.specs.declared.Summary.{Summary}
 use Rattle.distance.specs.Distances.{pointOf, betweenOf}
 use Rattle.head.specs.declared.Settings.{Settings}
+use Rattle.head.specs.declared.Running.{Running}
+use Rattle.head.specs.Counting.{newRunning}
 use Rattle.rules.specs.Lists.{snoc}
 
 pub record Node : Type 0 where
@@ -22,9 +24,7 @@ pub record Tree : Type 0 where
   pub nodes : List Node
   pub entries : List Summary
   pub root : ℕ
-  pub threshold : Float
-  pub rebuilds : ℕ
-  pub merged : ℕ
+  pub running : Running
 
 -- ---- what the settings make of push, merge and the distances
 
@@ -72,16 +72,16 @@ cap s false = s .branching
 -- ---- changing a part
 
 unfoldable pub withNodes : List Node → Tree → Tree
-withNodes ns t = record { nodes = ns; entries = t .entries; root = t .root; threshold = t .threshold; rebuilds = t .rebuilds; merged = t .merged }
+withNodes ns t = record { nodes = ns; entries = t .entries; root = t .root; running = t .running }
 
 unfoldable pub withEntries : List Summary → Tree → Tree
-withEntries es t = record { nodes = t .nodes; entries = es; root = t .root; threshold = t .threshold; rebuilds = t .rebuilds; merged = t .merged }
+withEntries es t = record { nodes = t .nodes; entries = es; root = t .root; running = t .running }
 
 unfoldable pub withRoot : ℕ → Tree → Tree
-withRoot r t = record { nodes = t .nodes; entries = t .entries; root = r; threshold = t .threshold; rebuilds = t .rebuilds; merged = t .merged }
+withRoot r t = record { nodes = t .nodes; entries = t .entries; root = r; running = t .running }
 
-unfoldable pub withMerged : ℕ → Tree → Tree
-withMerged n t = record { nodes = t .nodes; entries = t .entries; root = t .root; threshold = t .threshold; rebuilds = t .rebuilds; merged = n }
+unfoldable pub onRunning : (Running → Running) → Tree → Tree
+onRunning f t = record { nodes = t .nodes; entries = t .entries; root = t .root; running = f (t .running) }
 
 unfoldable pub summed : (Summary → Summary) → Node → Node
 summed f n = record { summary = f (n .summary); list = n .list; leaf = n .leaf; parent = n .parent }
@@ -99,4 +99,4 @@ under p n = record { summary = n .summary; list = n .list; leaf = n .leaf; paren
 -- ---- creation
 
 unfoldable pub fresh : Float → Tree
-fresh threshold = record { nodes = blankNode ∷ []; entries = []; root = 0; threshold = threshold; rebuilds = 0; merged = 0 }
+fresh threshold = record { nodes = blankNode ∷ []; entries = []; root = 0; running = newRunning threshold }

@@ -12,7 +12,7 @@ use Rattle.rules.specs.declared.Verdict.{Verdict}
 use Rattle.rules.specs.declared.Verdict.the-variants.{Fails}
 use Rattle.rules.specs.Lists.{every}
 use Rattle.rules.specs.Tree.{Tree}
-use Rattle.rules.specs.Check.{sized, rooted, listFits, linked, onceEach, leafLists, filled, level, weighed, unsettled, lowest, checked}
+use Rattle.rules.specs.Check.{sized, rooted, listFits, linked, onceEach, leafLists, filled, level, weighed, mergedBelow, lowest, checked}
 use Rattle.laws.specs.Check.Taken.{Binary64}
 use Rattle.validate.specs.Climbing.{meeting}
 use Rattle.validate.specs.Meeting.{meeting-is}
@@ -28,7 +28,7 @@ hung t = meeting t && onceEach (length (t .entries)) (leafLists (t .nodes))
 
 -- the eight conditions in their order
 unfoldable pub conditions : Settings → Tree → List Bool
-conditions s t = sized s t ∷ rooted t ∷ every (listFits s t) (t .nodes) ∷ hung t ∷ filled t ∷ forking t ∷ summed t ∷ unsettled s t ∷ []
+conditions s t = sized s t ∷ rooted t ∷ every (listFits s t) (t .nodes) ∷ hung t ∷ filled t ∷ forking t ∷ summed t ∷ mergedBelow s (t .running) ∷ []
 
 unfoldable pub examined : Settings → Tree → Verdict
 examined s t = lowest 1 (conditions s t)

@@ -53,7 +53,7 @@ pub fn validate(s: Settings, n: Counters, floats: &[f64], links: &[u32]) -> Verd
     if !weights::summed(s, n, floats, links) {
         return Verdict::Fails(7);
     }
-    if n.merged >= s.max_leaves {
+    if n.running.merged >= s.max_leaves {
         return Verdict::Fails(8);
     }
     Verdict::Passes

@@ -66,6 +66,13 @@ insert-requires c κs =
       ),
     )
 
+-- the turn's number is below the count, which fits
+add-k : tie.Need-add-k Inv-loop μ-loop
+add-k c =
+    let turn = c .before .before .before .before .before .before .before .before .before .before .before .before .before .before in
+    let fit = start (turn .before) .fits in
+    omega (arith, turn .loop-test .taken)
+
 loop-again : tie.Need-loop-again Inv-loop μ-loop
 loop-again c =
     let more = c .before .before .before .before .before .before .before .before .before .before .before .before .before .before .loop-test in
@@ -108,5 +115,5 @@ returns c =
 
 pub insert-all-spec : {M : Type 1} → statement M
 insert-all-spec = tie.close
-    (tie.spec Inv-loop μ-loop loop-holds row-requires insert-requires (λ c. search needs) (λ c. search needs) loop-again same-length same-length-2
+    (tie.spec Inv-loop μ-loop loop-holds row-requires insert-requires add-k (λ c. search needs) loop-again same-length same-length-2
     same-length-3 same-length-4 returns)

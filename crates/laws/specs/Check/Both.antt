@@ -2,8 +2,8 @@
 use mathlib.Core.Bool.{_&&_}
 use lib.Dec.{T}
 use lib.Ieee.Fits.{and-r}
-use Prim.Native.Nat.{ℕ, _≤_, _<_}
-use mathlib.Core.Path.{_≡_, refl, sym, ap, subst}
+use Prim.Native.Nat.{ℕ, _≤_}
+use mathlib.Core.Path.{_≡_, refl, sym, subst}
 use mathlib.Core.Logic.{_⊎_, inl, inr, _≢_}
 use mathlib.Core.List.{List, [], _∷_}
 use native.Mathlib.Omega.{arith}
@@ -12,19 +12,20 @@ use Rattle.feature.specs.declared.Summary.{Summary}
 use Rattle.head.specs.declared.Settings.{Settings}
 use Rattle.rules.specs.declared.Verdict.the-variants.{Passes}
 use Rattle.rules.specs.Lists.{every, joined, upFrom}
-use Rattle.rules.specs.Check.{sized, rooted, listFits, linked, filled, level, weighed, unsettled, onceEach, levels, ownList, leafLists, checked, totalOf}
+use Rattle.rules.specs.Check.{sized, rooted, listFits, linked, filled, level, weighed, mergedBelow, onceEach, levels, ownList, leafLists, checked, totalOf}
 use Rattle.rules.specs.Tree.{Tree}
 use Rattle.laws.specs.Check.Taken.{lowest-none, Binary64, checked-whole}
 use Rattle.counting.specs.Count.{same?}
 use Rattle.laws.specs.Inserting.First.{Holding}
 use Rattle.laws.specs.Check.Passing.{whole-passes}
 use Rattle.laws.specs.Check.Empty.{bare-passes, checked-bare}
+use Rattle.laws.specs.Running.{Below}
 
 -- the invariant of a tree between calls: it holds so many rows, in at most max_leaves entries, and its merged total is below that
 pub record AtRest (s : Settings) (t : Tree) (rows : ℕ) : Type 0 where
   pub holds : Holding s t rows
   pub few : length (t .entries) ≤ s .«max_leaves»
-  pub unsettled : t .merged < s .«max_leaves»
+  pub below : Below s (t .running)
 
 pub none-total : (l : List Summary) → length l ≡ 0 → totalOf l ≡ 0
 unfolding totalOf
@@ -36,8 +37,8 @@ pub passing-rests : (s : Settings) (t : Tree) → Binary64 t → checked s t ≡
 passing-rests s t n e = go (same? (length (t .entries)) 0)
   where
     go : (length (t .entries) ≡ 0) ⊎ (length (t .entries) ≢ 0) → AtRest s t (totalOf (t .entries))
-    go (inl z) = let q = checked-bare s t n z e in record { holds = inl (q .0, none-total (t .entries) z); few = omega arith; unsettled = q .1 }
-    go (inr z) = let q = checked-whole s t n (omega arith) e in record { holds = inr (q .0); few = q .1; unsettled = q .2 }
+    go (inl z) = let q = checked-bare s t n z e in record { holds = inl (q .0, none-total (t .entries) z); few = omega arith; below = q .1 }
+    go (inr z) = let q = checked-whole s t n (omega arith) e in record { holds = inr (q .0); few = q .1; below = q .2 }
 
 -- and a tree that satisfies it passes
 pub resting-passes : (s : Settings) (t : Tree) (rows : ℕ) → AtRest s t rows → checked s t ≡ Passes
@@ -46,15 +47,14 @@ resting-passes s t rows r = go (r .holds)
     go : Holding s t rows → checked s t ≡ Passes
     go (inl b) =
         let q = b .0 in
-        let m : q .3 ≡ t .merged = ap (λ u. u .merged) (sym (q .5)) in
-        let u = r .unsettled in
-        subst (λ u. checked s u ≡ Passes) (sym (q .5)) (bare-passes s (q .0) (q .1) (q .2) (q .3) (q .4) (omega arith) (omega arith))
-    go (inr w) = whole-passes (w .1) (w .2) (r .few) (r .unsettled)
+        let u = r .below in
+        subst (λ u. checked s u ≡ Passes) (sym (q .is)) (bare-passes s (q .summary) (t .running) (q .zero) (omega arith) u)
+    go (inr w) = whole-passes (w .1) (w .2) (r .few) (r .below)
 
 -- each entry is in one leaf list, once
 pub passing-linked : (s : Settings) (t : Tree) → checked s t ≡ Passes → T (onceEach (length (t .entries)) (leafLists (t .nodes)))
 unfolding checked linked
 passing-linked s t e =
-    let b = lowest-none 1 (sized s t ∷ rooted t ∷ every (listFits s t) (t .nodes) ∷ linked t ∷ filled t ∷ level t ∷ weighed t ∷ unsettled s t ∷ []) e in
+    let b = lowest-none 1 (sized s t ∷ rooted t ∷ every (listFits s t) (t .nodes) ∷ linked t ∷ filled t ∷ level t ∷ weighed t ∷ mergedBelow s (t .running) ∷ []) e in
     and-r (onceEach (length (t .nodes)) (joined (levels t)) && every (ownList t) (upFrom (length (t .nodes)) 0))
     (onceEach (length (t .entries)) (leafLists (t .nodes))) (b .1 .1 .1 .0)

@@ -1,5 +1,5 @@
 -- The empty tree and the check.
-use Prim.Native.Nat.{ℕ, suc, _+_, _*_, _/_, _≤_, _<_}
+use Prim.Native.Nat.{ℕ, suc, _+_, _*_, _/_, _≤_}
 use mathlib.Core.Path.{_≡_, refl, ap, _∙_, subst}
 use mathlib.Core.Logic.{inl, inr}
 use mathlib.Core.Bool.{Bool, true, false, _&&_, _||_, true≢false, false≢true, cond}
@@ -7,7 +7,7 @@ use mathlib.Core.List.{List, [], _∷_, _++_}
 use mathlib.Core.Option.{Option, none, some}
 use native.Mathlib.Omega.{arith}
 use lib.Dec.{T, leb, ltb, eqb, le→leb, ltb→lt, lt→ltb, eqb→eq}
-use lib.Ieee.{Float, binary64, fits, eq, neg, ofInt}
+use lib.Ieee.{binary64, fits, eq, neg, ofInt}
 use lib.Ieee.Fits.{and-l, and-r}
 use lib.ListN.{length}
 use Rattle.binary64.specs.Whole.{whole}
@@ -19,13 +19,15 @@ use Rattle.rules.specs.declared.Verdict.the-variants.{Passes}
 use Rattle.rules.specs.Lists.{upFrom, every, occurs, joined}
 use Rattle.rules.specs.Tree.{Node, Tree, nodeAt, cap}
 use Rattle.rules.specs.Check.{onceEach, orphan, sized, rooted, listFits, nextLevel, levelsFrom, levels, ownList, leafLists, linked, filled, loneRoot, level}
-use Rattle.rules.specs.Check.{sameKind, growing, totalOf, weighs, weighed, lowest, checked, unsettled, known}
+use Rattle.rules.specs.Check.{sameKind, growing, totalOf, weighs, weighed, lowest, checked, mergedBelow, known}
 use Rattle.rules.specs.Reinsert.{collected}
 use Rattle.laws.specs.Invariant.Height.{leaves-few, levels-some}
 use Rattle.laws.specs.Inserting.First.{emptyTree, Zero, Bare}
 use Rattle.laws.specs.Check.Accept.{ranks, accepted-links}
 use Rattle.laws.specs.Check.Taken.{Binary64, lowest-none}
 use lib.Ieee.Bits.{is-true}
+use Rattle.head.specs.declared.Running.{Running}
+use Rattle.laws.specs.Running.{Below}
 
 -- ---- no entries: a lone root
 
@@ -62,14 +64,14 @@ module _ (s : Settings) (t : Tree) (h2 : T (rooted t)) (h3 : T (every (listFits 
       let a = ltb→lt (t .root) (length (t .nodes))
       (and-l (ltb (t .root) (length (t .nodes))) (orphan (nodeAt t (t .root) .parent)) h2) in let b = one-node in omega arith
 
-abbrev pub oneOf : Node → Float → ℕ → ℕ → Tree
-oneOf m h r g = record { nodes = m ∷ []; entries = []; root = 0; threshold = h; rebuilds = r; merged = g }
+abbrev pub oneOf : Node → Running → Tree
+oneOf m r = record { nodes = m ∷ []; entries = []; root = 0; running = r }
 
 -- the lone node of such a tree
-lone-node : (s : Settings) (m : Node) (h : Float) (r g : ℕ) → T (rooted (oneOf m h r g)) → T (every (listFits s (oneOf m h r g)) (m ∷ [])) → T
-    (linked (oneOf m h r g)) → T (filled (oneOf m h r g)) → (m .list ≡ []) × (m .leaf ≡ true) × (m .parent ≡ none)
+lone-node : (s : Settings) (m : Node) (r : Running) → T (rooted (oneOf m r)) → T (every (listFits s (oneOf m r)) (m ∷ [])) → T
+    (linked (oneOf m r)) → T (filled (oneOf m r)) → (m .list ≡ []) × (m .leaf ≡ true) × (m .parent ≡ none)
 unfolding rooted every listFits linked filled orphan nodeAt loneRoot onceEach levels levelsFrom nextLevel joined known
-lone-node s m h r g h2 h3 h4 h5 = go (m .list) refl (m .leaf) refl
+lone-node s m r h2 h3 h4 h5 = go (m .list) refl (m .leaf) refl
   where
     parent′ : (o : Option ℕ) → T (orphan o) → o ≡ none
     parent′ none q = refl
@@ -80,16 +82,16 @@ lone-node s m h r g h2 h3 h4 h5 = go (m .list) refl (m .leaf) refl
     go [] e false f =
         absurd (subst (λ b. T (b && true)) f (and-l (m .leaf && true) true (subst (λ ks. T ((ltb 0 (length ks) || (m .leaf && true)) && true)) e h5)))
     go (c ∷ ks) e true f = absurd (never
-        (subst (λ b. T (ltb c (known (oneOf m h r g) b))) f
-        (and-l (ltb c (known (oneOf m h r g) (m .leaf))) (every (λ c. ltb c (known (oneOf m h r g) (m .leaf))) ks)
-        (subst (λ z. T (every (λ c. ltb c (known (oneOf m h r g) (m .leaf))) z)) e
-        (and-r (leb (length (m .list)) (cap s (m .leaf))) (every (λ c. ltb c (known (oneOf m h r g) (m .leaf))) (m .list))
-        (and-l (leb (length (m .list)) (cap s (m .leaf)) && every (λ c. ltb c (known (oneOf m h r g) (m .leaf))) (m .list)) true h3))))))
+        (subst (λ b. T (ltb c (known (oneOf m r) b))) f
+        (and-l (ltb c (known (oneOf m r) (m .leaf))) (every (λ c. ltb c (known (oneOf m r) (m .leaf))) ks)
+        (subst (λ z. T (every (λ c. ltb c (known (oneOf m r) (m .leaf))) z)) e
+        (and-r (leb (length (m .list)) (cap s (m .leaf))) (every (λ c. ltb c (known (oneOf m r) (m .leaf))) (m .list))
+        (and-l (leb (length (m .list)) (cap s (m .leaf)) && every (λ c. ltb c (known (oneOf m r) (m .leaf))) (m .list)) true h3))))))
       where
         never : T (ltb c 0) → ⊥
         never q = let z = ltb→lt c 0 q in omega arith
     go (c ∷ ks) e false f =
-        let tr : Tree = oneOf m h r g in
+        let tr : Tree = oneOf m r in
         let a : length (joined (levels tr)) ≡ 1 = eqb→eq (length (joined (levels tr))) 1
         (and-l (eqb (length (joined (levels tr))) 1) (every (λ i. eqb (occurs i (joined (levels tr))) 1) (upFrom 1 0))
         (and-l (onceEach 1 (joined (levels tr))) (every (ownList tr) (upFrom 1 0))
@@ -104,16 +106,15 @@ lone-node s m h r g h2 h3 h4 h5 = go (m .list) refl (m .leaf) refl
         two n e = omega arith
 
 -- a lone root of weight zero passes
-pub bare-passes : (s : Settings) (z : Summary) (h : Float) (r g : ℕ) → Zero (z .weight) → 1 ≤ s .«max_leaves» → g < s .«max_leaves» → checked s
-    (emptyTree z h r g) ≡ Passes
-unfolding checked sized rooted orphan every listFits linked onceEach levels levelsFrom nextLevel joined occurs upFrom ownList leafLists filled loneRoot level sameKind growing weighed weighs totalOf collected nodeAt lowest nodeCap unsettled
-bare-passes s z h r g hz one hg =
+pub bare-passes : (s : Settings) (z : Summary) (r : Running) → Zero (z .weight) → 1 ≤ s .«max_leaves» → Below s r → checked s (emptyTree z r) ≡ Passes
+unfolding checked sized rooted orphan every listFits linked onceEach levels levelsFrom nextLevel joined occurs upFrom ownList leafLists filled loneRoot level sameKind growing weighed weighs totalOf collected nodeAt lowest nodeCap mergedBelow
+bare-passes s z r hz one hg =
     go (leb 1 ((s .«max_leaves» + 1) * (s .«max_leaves» + 2) / 2))
     (is-true (leb 1 ((s .«max_leaves» + 1) * (s .«max_leaves» + 2) / 2)) (le→leb 1 ((s .«max_leaves» + 1) * (s .«max_leaves» + 2) / 2) (omega arith)))
     (leb 0 (s .«max_leaves»)) (is-true (leb 0 (s .«max_leaves»)) (le→leb 0 (s .«max_leaves») (omega arith)))
     (leb 0 (cap s true)) (is-true (leb 0 (cap s true)) (le→leb 0 (cap s true) (omega arith)))
     (eq (whole 0) (z .weight)) (zero-eq hz)
-    (ltb g (s .«max_leaves»)) (is-true (ltb g (s .«max_leaves»)) (lt→ltb g (s .«max_leaves») hg))
+    (ltb (r .merged) (s .«max_leaves»)) (is-true (ltb (r .merged) (s .«max_leaves»)) (lt→ltb (r .merged) (s .«max_leaves») hg))
   where
     zero-eq : Zero (z .weight) → eq (whole 0) (z .weight) ≡ true
     zero-eq (inl q) = ap (λ w. eq (whole 0) w) q ∙ (unfold ofInt eq in refl)
@@ -128,15 +129,15 @@ bare-passes s z h r g hz one hg =
     go true p true q true u false v e w = absurd (false≢true v)
     go true p true q true u true v false w = absurd (false≢true w)
 
-zero-of : (z : Summary) (h : Float) (r g : ℕ) → T (fits binary64 (z .weight)) → T (weighed (emptyTree z h r g)) → Zero (z .weight)
+zero-of : (z : Summary) (r : Running) → T (fits binary64 (z .weight)) → T (weighed (emptyTree z r)) → Zero (z .weight)
 unfolding weighed every weighs upFrom collected nodeAt totalOf
-zero-of z h r g f w = eq-zero (z .weight) f (and-l (eq (whole 0) (z .weight)) true (and-r true (eq (whole 0) (z .weight) && true) w))
+zero-of z r f w = eq-zero (z .weight) f (and-l (eq (whole 0) (z .weight)) true (and-r true (eq (whole 0) (z .weight) && true) w))
 
 -- an empty tree that passes is one bare leaf
-pub checked-bare : (s : Settings) (t : Tree) → Binary64 t → length (t .entries) ≡ 0 → checked s t ≡ Passes → Bare t × (t .merged < s .«max_leaves»)
-unfolding checked nodeAt unsettled
+pub checked-bare : (s : Settings) (t : Tree) → Binary64 t → length (t .entries) ≡ 0 → checked s t ≡ Passes → Bare t × Below s (t .running)
+unfolding checked nodeAt mergedBelow
 checked-bare s t lent none-in h =
-    let b = lowest-none 1 (sized s t ∷ rooted t ∷ every (listFits s t) (t .nodes) ∷ linked t ∷ filled t ∷ level t ∷ weighed t ∷ unsettled s t ∷ []) h in
+    let b = lowest-none 1 (sized s t ∷ rooted t ∷ every (listFits s t) (t .nodes) ∷ linked t ∷ filled t ∷ level t ∷ weighed t ∷ mergedBelow s (t .running) ∷ []) h in
     let c = b .1 in
     let d = c .1 in
     let e = d .1 in
@@ -145,11 +146,11 @@ checked-bare s t lent none-in h =
     let i = g .1 in (
       shape (t .nodes) refl (one-node s t (c .0) (d .0) (e .0) (f .0) (g .0) none-in) (root-zero s t (c .0) (d .0) (e .0) (f .0) (g .0) none-in) (c .0) (d .0)
           (e .0) (f .0) (i .0),
-      ltb→lt (t .merged) (s .«max_leaves») (i .1 .0),
+      ltb→lt (t .running .merged) (s .«max_leaves») (i .1 .0),
     )
   where
     as-tree : List Node → List Summary → ℕ → Tree
-    as-tree ns es r = record { nodes = ns; entries = es; root = r; threshold = t .threshold; rebuilds = t .rebuilds; merged = t .merged }
+    as-tree ns es r = record { nodes = ns; entries = es; root = r; running = t .running }
 
     as-node : Summary → List ℕ → Bool → Option ℕ → Node
     as-node z ks l p = record { summary = z; list = ks; leaf = l; parent = p }
@@ -159,21 +160,14 @@ checked-bare s t lent none-in h =
     shape [] e n r h2 h3 h4 h5 h7 = let z : length (t .nodes) ≡ 0 = ap (λ l. length l) e in absurd (omega arith)
     shape (m ∷ k ∷ ns) e n r h2 h3 h4 h5 h7 = let z : length (t .nodes) ≡ suc (suc (length ns)) = ap (λ l. length l) e in absurd (omega arith)
     shape (m ∷ []) e n r h2 h3 h4 h5 h7 =
-        let p : t ≡ oneOf m (t .threshold) (t .rebuilds) (t .merged) = ap (λ ns. as-tree ns (t .entries) (t .root)) e ∙ ap
+        let p : t ≡ oneOf m (t .running) = ap (λ ns. as-tree ns (t .entries) (t .root)) e ∙ ap
         (λ es. as-tree (m ∷ []) es (t .root)) (no-entries (t .entries) none-in) ∙ ap (λ r. as-tree (m ∷ []) [] r) r in
-        let q = lone-node s m (t .threshold) (t .rebuilds) (t .merged) (subst (λ u. T (rooted u)) p h2) (subst (λ u. T (every (listFits s u) (u .nodes))) p h3)
+        let q = lone-node s m (t .running) (subst (λ u. T (rooted u)) p h2) (subst (λ u. T (every (listFits s u) (u .nodes))) p h3)
         (subst (λ u. T (linked u)) p h4) (subst (λ u. T (filled u)) p h5) in
         let o : m ≡ as-node (m .summary) [] true none = ap (λ ks. as-node (m .summary) ks (m .leaf) (m .parent)) (q .0) ∙ ap
         (λ l. as-node (m .summary) [] l (m .parent)) (q .1) ∙ ap (λ o. as-node (m .summary) [] true o) (q .2) in
-        let w : t ≡ emptyTree (m .summary) (t .threshold) (t .rebuilds) (t .merged) = p ∙ ap (λ m. oneOf m (t .threshold) (t .rebuilds) (t .merged)) o in (
-          m .summary,
-          t .threshold,
-          t .rebuilds,
-          t .merged,
-          zero-of (m .summary) (t .threshold) (t .rebuilds) (t .merged) (fit m p)
-              (subst (λ u. T (weighed u)) w h7),
-          w,
-        )
+        let w : t ≡ emptyTree (m .summary) (t .running) = p ∙ ap (λ m. oneOf m (t .running)) o in
+        record { summary = m .summary; zero = zero-of (m .summary) (t .running) (fit m p) (subst (λ u. T (weighed u)) w h7); is = w }
       where
-        fit : (m : Node) → t ≡ oneOf m (t .threshold) (t .rebuilds) (t .merged) → T (fits binary64 (m .summary .weight))
+        fit : (m : Node) → t ≡ oneOf m (t .running) → T (fits binary64 (m .summary .weight))
         fit m p = subst (λ u. T (fits binary64 (nodeAt u 0 .summary .weight))) p (lent .nodes-fit 0 (omega arith))

@@ -21,7 +21,7 @@ use Rattle.rules.specs.declared.Verdict.the-variants.{Passes}
 use Rattle.rules.specs.Lists.{upFrom, every, occurs, joined}
 use Rattle.rules.specs.Tree.{Node, Tree, nodeAt, entryAt, blankNode, cap}
 use Rattle.rules.specs.Check.{onceEach, orphan, names, sized, rooted, listFits, levels, ownList, leafLists, linked, loneRoot, filled, level, rowsIn, totalOf}
-use Rattle.rules.specs.Check.{weighs, weighed, lowest, checked, known, unsettled}
+use Rattle.rules.specs.Check.{weighs, weighed, lowest, checked, known, mergedBelow}
 use Rattle.rules.specs.Reinsert.{collected}
 use Rattle.counting.specs.Count.{is, below, below-in}
 use Rattle.counting.specs.Sums.{over, over-append, occurs-over, length-over, sumTo, occurs-here, sum-ones, occurs-later}
@@ -199,7 +199,7 @@ module _ {s : Settings} {t : Tree} {R : ℕ → ℕ} {total : ℕ} (g : Settled 
       (every-up (weighs t) (length (t .nodes)) 0 (λ c q. node-weighs c (omega arith)))
 
   -- all eight conditions
-  pub whole-passes : t .merged < s .«max_leaves» → checked s t ≡ Passes
-  unfolding checked unsettled
-  whole-passes m = lowest-all 1 (sized s t ∷ rooted t ∷ every (listFits s t) (t .nodes) ∷ linked t ∷ filled t ∷ level t ∷ weighed t ∷ unsettled s t ∷ [])
-      (c1, (c2, (c3, (c4, (c5, (level-holds t (g .links), (weighed-holds, (lt→ltb (t .merged) (s .«max_leaves») m, tt))))))))
+  pub whole-passes : t .running .merged < s .«max_leaves» → checked s t ≡ Passes
+  unfolding checked mergedBelow
+  whole-passes m = lowest-all 1 (sized s t ∷ rooted t ∷ every (listFits s t) (t .nodes) ∷ linked t ∷ filled t ∷ level t ∷ weighed t ∷ mergedBelow s (t .running) ∷ [])
+      (c1, (c2, (c3, (c4, (c5, (level-holds t (g .links), (weighed-holds, (lt→ltb (t .running .merged) (s .«max_leaves») m, tt))))))))

@@ -21,7 +21,7 @@ use Rattle.rules.specs.declared.Verdict.the-variants.{Passes}
 use Rattle.rules.specs.Lists.{upFrom, every}
 use Rattle.rules.specs.Tree.{Tree, nodeAt, entryAt}
 use Rattle.rules.specs.Reinsert.{collected}
-use Rattle.rules.specs.Check.{sized, rooted, listFits, linked, filled, loneRoot, level, rowsIn, totalOf, weighs, weighed, lowest, checked, unsettled}
+use Rattle.rules.specs.Check.{sized, rooted, listFits, linked, filled, loneRoot, level, rowsIn, totalOf, weighs, weighed, lowest, checked, mergedBelow}
 use Rattle.laws.specs.Invariant.Weights.{exact-count, exact-is, IsExact}
 use Rattle.counting.specs.Sums.{over-same, sumTo}
 use Rattle.laws.specs.Invariant.Links.{Links, nil, leaf?}
@@ -139,10 +139,10 @@ not-lone t h q = let e = eqb→eq (length (t .entries)) 0 (and-r (eqb (length (t
 
 -- a tree with entries that passes satisfies the invariant, with the sum of its entries' weights as total
 pub checked-whole : (s : Settings) (t : Tree) → Binary64 t → 0 < length (t .entries) → checked s t ≡ Passes → Whole s t (totalOf (t .entries)) ×
-    (length (t .entries) ≤ s .«max_leaves») × (t .merged < s .«max_leaves»)
-unfolding checked sized unsettled
+    (length (t .entries) ≤ s .«max_leaves») × (t .running .merged < s .«max_leaves»)
+unfolding checked sized mergedBelow
 checked-whole s t lent here h =
-    let b = lowest-none 1 (sized s t ∷ rooted t ∷ every (listFits s t) (t .nodes) ∷ linked t ∷ filled t ∷ level t ∷ weighed t ∷ unsettled s t ∷ []) h in
+    let b = lowest-none 1 (sized s t ∷ rooted t ∷ every (listFits s t) (t .nodes) ∷ linked t ∷ filled t ∷ level t ∷ weighed t ∷ mergedBelow s (t .running) ∷ []) h in
     let h1 = b .0 in
     let c = b .1 in
     let d = c .1 in
@@ -159,5 +159,5 @@ checked-whole s t lent here h =
       ),
       leb→le (length (t .entries)) (s .«max_leaves»)
           (and-r (leb 1 (length (t .nodes)) && leb (length (t .nodes)) (nodeCap s)) (leb (length (t .entries)) (s .«max_leaves»)) h1),
-      ltb→lt (t .merged) (s .«max_leaves») (i .1 .0),
+      ltb→lt (t .running .merged) (s .«max_leaves») (i .1 .0),
     )

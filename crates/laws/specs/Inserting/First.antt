@@ -28,14 +28,14 @@ use Rattle.laws.specs.Invariant.Weights.{Exactly, exact-count, exact-is,
 use Rattle.laws.specs.Invariant.Weigh.{own, pick}
 use Rattle.laws.specs.Invariant.Sound.{entryWeight, nodeWeight, Caps}
 use Rattle.laws.specs.Inserting.Grown.{Placed, Whole, settled-whole, entry-in, row-in}
+use Rattle.head.specs.declared.Running.{Running}
 
 -- one leaf of list ks and summary z, and entries es
-abbrev pub lone : Summary → List ℕ → List Summary → Float → ℕ → ℕ → Tree
-lone z ks es h r m =
-    record { nodes = record { summary = z; list = ks; leaf = true; parent = none } ∷ []; entries = es; root = 0; threshold = h; rebuilds = r; merged = m }
+abbrev pub lone : Summary → List ℕ → List Summary → Running → Tree
+lone z ks es r = record { nodes = record { summary = z; list = ks; leaf = true; parent = none } ∷ []; entries = es; root = 0; running = r }
 
-abbrev pub emptyTree : Summary → Float → ℕ → ℕ → Tree
-emptyTree z h r m = lone z [] [] h r m
+abbrev pub emptyTree : Summary → Running → Tree
+emptyTree z r = lone z [] [] r
 
 only-zero : (k : ℕ) → k < 1 → k ≡ 0
 only-zero k h = omega arith
@@ -43,9 +43,9 @@ only-zero k h = omega arith
 below-one : (c : ℕ) → below c 1 ≡ is c 0
 below-one c = let a = below-suc c 0 in let b = below-out c 0 (omega arith) in omega arith
 
-module _ (s : Settings) (z e : Summary) (h : Float) (r m d : ℕ) (hz : Exactly z d) (he : Exactly e d) (some-d : 1 ≤ d) where
+module _ (s : Settings) (z e : Summary) (r : Running) (d : ℕ) (hz : Exactly z d) (he : Exactly e d) (some-d : 1 ≤ d) where
   abbrev t : Tree
-  t = lone z (0 ∷ []) (e ∷ []) h r m
+  t = lone z (0 ∷ []) (e ∷ []) r
 
   one-links : Links s (nodeAt t) 1 0 1 nil (is 0) (is 0) nil
   unfolding nodeAt sumTo inner held occurs rankCount
@@ -123,8 +123,11 @@ push-zero f x z (inr q) = (go q, omega arith)
 
 -- ---- the invariant
 
-abbrev pub Bare : Tree → Type 0
-Bare t = (z : Summary) × (h : Float) × (r : ℕ) × (m : ℕ) × Zero (z .weight) × (t ≡ emptyTree z h r m)
+-- an empty tree: one leaf that weighs nothing
+pub record Bare (t : Tree) : Type 0 where
+  pub summary : Summary
+  pub zero : Zero (summary .weight)
+  pub is : t ≡ emptyTree summary (t .running)
 
 -- a tree that holds total rows
 abbrev pub Holding : Settings → Tree → ℕ → Type 0
@@ -132,7 +135,7 @@ Holding s t total = (Bare t × (total ≡ 0)) ⊎ Whole s t total
 
 pub fresh-holds : (s : Settings) (h : Float) → Holding s (fresh h) 0
 unfolding fresh blankNode
-fresh-holds s h = inl ((blank, h, 0, 0, inl (blank-exact .0), refl), refl)
+fresh-holds s h = inl (record { summary = blank; zero = inl (blank-exact .0); is = refl }, refl)
 
 -- ---- a row, and an entry, placed: the invariant, looked at in the leaf
 
@@ -142,16 +145,16 @@ rowPlaced s x t = placed s x (leafFor t (λ c. distTo s c x)) (alongPath (push s
 abbrev pub PlacedRow : Settings → List Float → ℕ → Tree → Type 0
 PlacedRow s x total t = (R : ℕ → ℕ) × Placed s (rowPlaced s x t) R (leafFor t (λ c. distTo s c x)) total
 
-first-row : (s : Settings) (x : List Float) (z : Summary) (h : Float) (r m : ℕ) → Exactly (push s x z) 1 → PlacedRow s x 1 (emptyTree z h r m)
+first-row : (s : Settings) (x : List Float) (z : Summary) (r : Running) → Exactly (push s x z) 1 → PlacedRow s x 1 (emptyTree z r)
 unfolding placed absorbedOrBegun searched searching leafFor descended alongPath climbed changeAt summed begun adding listing snoc withNodes withEntries nodeAt
-first-row s x z h r m e = (nil, one-placed s (push s x z) (push s x blank) h r m 1 e (push-weigh s x blank 0 blank-exact (omega arith)) (omega arith))
+first-row s x z r e = (nil, one-placed s (push s x z) (push s x blank) r 1 e (push-weigh s x blank 0 blank-exact (omega arith)) (omega arith))
 
 -- a row in its leaf, before any split
 pub row-placed : (s : Settings) (x : List Float) (t : Tree) (total : ℕ) → Caps s → Holding s t total → total < most → PlacedRow s x (suc total) t
 row-placed s x t total c (inl b) h =
     let q = b .0 in
-    subst (λ u. PlacedRow s x (suc total) u) (sym (q .5)) (subst (λ k. PlacedRow s x (suc k) (emptyTree (q .0) (q .1) (q .2) (q .3))) (sym (b .1))
-    (first-row s x (q .0) (q .1) (q .2) (q .3) (push-zero s x (q .0) (q .4))))
+    subst (λ u. PlacedRow s x (suc total) u) (sym (q .is)) (subst (λ k. PlacedRow s x (suc k) (emptyTree (q .summary) (t .running))) (sym (b .1))
+    (first-row s x (q .summary) (t .running) (push-zero s x (q .summary) (q .zero))))
 row-placed s x t total c (inr w) h =
     let e : total + 1 ≡ suc total = omega arith in
     (w .0, subst (λ k. Placed s (rowPlaced s x t) (w .0) (leafFor t (λ c. distTo s c x)) k) e (row-in x c (w .1) (w .2) (omega arith)))
@@ -165,7 +168,11 @@ grown-holds s x t total c k h =
 
 -- an empty tree of weight exactly 0, as a clearing leaves it, or a settled one
 abbrev pub Ready : Settings → Tree → ℕ → Type 0
-Ready s t total = ((z : Summary) × (h : Float) × (r : ℕ) × (m : ℕ) × Exactly z 0 × (t ≡ emptyTree z h r m) × (total ≡ 0)) ⊎ Whole s t total
+Ready s t total = ((z : Summary) × Exactly z 0 × (t ≡ emptyTree z (t .running)) × (total ≡ 0)) ⊎ Whole s t total
+
+pub ready-holds : (s : Settings) (t : Tree) (total : ℕ) → Ready s t total → Holding s t total
+ready-holds s t total (inl q) = inl (record { summary = q .0; zero = inl (q .1 .0); is = q .2 }, q .3)
+ready-holds s t total (inr w) = inr w
 
 abbrev pub entryPlaced : Settings → Summary → Tree → Tree
 entryPlaced s e t = begun (leafFor t (λ c. distBetween s c e)) e (alongPath (λ c. merge s c e) (leafFor t (λ c. distBetween s c e)) t)
@@ -173,19 +180,19 @@ entryPlaced s e t = begun (leafFor t (λ c. distBetween s c e)) e (alongPath (λ
 abbrev pub PlacedEntry : Settings → Summary → ℕ → Tree → Type 0
 PlacedEntry s e total t = (R : ℕ → ℕ) × Placed s (entryPlaced s e t) R (leafFor t (λ c. distBetween s c e)) total
 
-first-entry : (s : Settings) (e z : Summary) (h : Float) (r m d : ℕ) → Exactly (merge s z e) d → Exactly e d → 1 ≤ d → PlacedEntry s e d (emptyTree z h r m)
+first-entry : (s : Settings) (e z : Summary) (r : Running) (d : ℕ) → Exactly (merge s z e) d → Exactly e d → 1 ≤ d → PlacedEntry s e d (emptyTree z r)
 unfolding leafFor descended alongPath climbed changeAt summed begun adding listing snoc withNodes withEntries nodeAt
-first-entry s e z h r m d hz he pos = (nil, one-placed s (merge s z e) e h r m d hz he pos)
+first-entry s e z r d hz he pos = (nil, one-placed s (merge s z e) e r d hz he pos)
 
 -- an entry in its leaf, before any split
 pub entry-placed : (s : Settings) (e : Summary) (t : Tree) (d total : ℕ) → Ready s t total → Exactly e d → 1 ≤ d → total + d ≤ most
     → PlacedEntry s e (total + d) t
 entry-placed s e t d total (inl q) x pos b =
     let z = q .0 in
-    let k : d ≡ total + d = let w = q .6 in omega arith in
-    subst (λ u. PlacedEntry s e (total + d) u) (sym (q .5)) (subst (λ n. PlacedEntry s e n (emptyTree z (q .1) (q .2) (q .3))) k
-    (first-entry s e z (q .1) (q .2) (q .3) d (subst (λ y. Exactly (merge s z e) y) (let w : 0 + d ≡ d = omega arith in w)
-    (merge-weight s z e 0 d (q .4) x (omega arith))) x pos))
+    let k : d ≡ total + d = let w = q .3 in omega arith in
+    subst (λ u. PlacedEntry s e (total + d) u) (sym (q .2)) (subst (λ n. PlacedEntry s e n (emptyTree z (t .running))) k
+    (first-entry s e z (t .running) d (subst (λ y. Exactly (merge s z e) y) (let w : 0 + d ≡ d = omega arith in w)
+    (merge-weight s z e 0 d (q .1) x (omega arith))) x pos))
 entry-placed s e t d total (inr w) x pos b = (w .0, entry-in s e t (w .0) d total (w .1) (w .2) x pos b)
 
 -- an entry placed, splits done: the invariant, and its rows more

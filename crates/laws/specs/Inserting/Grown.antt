@@ -21,7 +21,7 @@ use Rattle.rules.specs.Insert.{begun, absorbed, absorbedOrBegun, placed, absorb
 use Rattle.rules.specs.Split.{settled}
 use Rattle.rules.specs.Check.{rowsIn}
 use Rattle.laws.specs.Invariant.Weights.{Exactly, push-weigh, merge-weight, blank-exact}
-use Rattle.laws.specs.Counters.{splitUp-entries}
+use Rattle.laws.specs.Running.{splitUp-entries}
 use Rattle.counting.specs.Lists.{change-keeps, length-change}
 use Rattle.counting.specs.Sums.{sumTo, sum-same, sum-change, occurs-here, occurs-later}
 use Rattle.counting.specs.Count.{either}

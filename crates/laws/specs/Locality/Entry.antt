@@ -19,20 +19,21 @@ use Rattle.rules.specs.Split.{splitUp, settled}
 use Rattle.rules.specs.Descent.{searching, searched, descended, leafFor, alongPath}
 use Rattle.rules.specs.Insert.{begun, absorbed, absorbedOrBegun, placed, grownAt, grown, absorbs}
 use Rattle.laws.specs.Demand.{winner, OneEntry, took, began}
-use Rattle.laws.specs.Counters.{splitUp-entries}
+use Rattle.laws.specs.Running.{splitUp-entries}
 use Rattle.laws.specs.Invariant.Links.{nil}
 use Rattle.laws.specs.Inserting.Descent.{leaf-found}
 use Rattle.laws.specs.Inserting.Grown.{Hit, search-among, climb-keeps}
 use Rattle.laws.specs.Inserting.Listed.{held-in}
 use Rattle.laws.specs.Inserting.First.{emptyTree, Holding}
+use Rattle.head.specs.declared.Running.{Running}
 
 -- the winner is an entry
 pub winner-in : (s : Settings) (x : List Float) (t : Tree) (total : ℕ) → Holding s t total → Hit (λ e. e < length (t .entries)) (winner s x t)
 winner-in s x t total (inl b) =
-    subst (λ t. Hit (λ e. e < length (t .entries)) (winner s x t)) (sym (b .0 .5)) (none-there (b .0 .0) (b .0 .1) (b .0 .2) (b .0 .3))
+    subst (λ t. Hit (λ e. e < length (t .entries)) (winner s x t)) (sym (b .0 .is)) (none-there (b .0 .summary) (t .running))
   where
-    none-there : (z : Summary) (h : Float) (r m : ℕ) → Hit (λ e. e < 0) (winner s x (emptyTree z h r m))
-    none-there z h r m = unfold winner searched searching leafFor descended nodeAt in tt
+    none-there : (z : Summary) (r : Running) → Hit (λ e. e < 0) (winner s x (emptyTree z r))
+    none-there z r = unfold winner searched searching leafFor descended nodeAt in tt
 winner-in s x t total (inr w) = unfold winner in go (searched to (nodeAt t l .list)) (search-among to (nodeAt t l .list))
   where
     l : ℕ

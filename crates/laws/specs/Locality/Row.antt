@@ -59,10 +59,10 @@ module _ (s : Settings) (x : List Float) (t : Tree) where
       go : Holding s t rows → (q : ℕ) → q < length (t .nodes) → (OnPath s x t q → ⊥) → Same (OnPath s x t) (length (t .nodes)) t (grown s x t) q
       go (inl b) q l off = absurd (off (on-path q l))
         where
-          e : t ≡ emptyTree (b .0 .0) (b .0 .1) (b .0 .2) (b .0 .3)
-          e = b .0 .5
+          e : t ≡ emptyTree (b .0 .summary) (t .running)
+          e = b .0 .is
 
-          here : OnPath s x (emptyTree (b .0 .0) (b .0 .1) (b .0 .2) (b .0 .3)) 0
+          here : OnPath s x (emptyTree (b .0 .summary) (t .running)) 0
           here = unfold rowPath wayUp leafFor descended nodeAt occurs in omega arith
 
           on-path : (q : ℕ) → q < length (t .nodes) → OnPath s x t q

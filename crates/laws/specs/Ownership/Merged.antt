@@ -12,7 +12,7 @@ use Rattle.feature.specs.declared.Summary.{Summary}
 use Rattle.feature.specs.Summaries.{blank}
 use Rattle.head.specs.declared.Settings.{Settings}
 use Rattle.rules.specs.Lists.{snoc, occurs}
-use Rattle.rules.specs.Tree.{Tree, nodeAt, entryAt, withMerged}
+use Rattle.rules.specs.Tree.{Tree, nodeAt, entryAt, onRunning, withEntries}
 use Rattle.rules.specs.Pairs.{sorted, siblings, cousins}
 use Rattle.rules.specs.declared.Pair.{Pair}
 use Rattle.rules.specs.Rebuild.{Merging, mergeOne, bothAlive, mergeAll, target, renumber, dropped}
@@ -37,8 +37,9 @@ use Rattle.laws.specs.Rebuilding.Rebuilt.{mergeStart, begun-alive, frame
 use Rattle.laws.specs.Demand.{mergedTo, mergedInto, reinsertedTo, rebalancedTo, compactedTo, mergedByTo, mergedWithTo, rebuiltTo}
 use Rattle.laws.specs.Ownership.Moved.{moved-made}
 use Rattle.laws.specs.Ownership.Owned.{Held, heldBy, Carries, carries-then, carries-same, weight-past, owner-in, merge-carries, drop-carries}
-use Rattle.laws.specs.Counters.{refolded-entries}
+use Rattle.laws.specs.Running.{refolded-entries}
 use Rattle.counting.specs.Places.{place-occurs, place-get, placeIn}
+use Rattle.head.specs.Counting.{withMerged}
 
 -- ---- all merges
 
@@ -192,32 +193,32 @@ module _ {s : Settings} {t : Tree} {R : ℕ → ℕ} {total : ℕ} (g : Settled 
     drop-moves : Carries s (renumber (m .alive)) (heldIn s m) (heldBy (dropped (m .alive) (withMerges t m)))
     drop-moves a k =
         let (u, v) = drop-carries s (withMerges t m) (m .alive) len a (λ c. same c ∙ k c) in
-        (u, (λ ys x. v ys (unfold withMerges entryAt in x)))
+        (u, (λ ys x. v ys (unfold withMerges entryAt onRunning withEntries in x)))
       where
         len : length (m .alive) ≡ length ((withMerges t m) .entries)
-        len = unfold withMerges in (d .len-a ∙ sym (d .len-e))
+        len = unfold withMerges onRunning withEntries in (d .len-a ∙ sym (d .len-e))
 
         same : (c : ℕ) → alive (m .alive) (entryWeight (withMerges t m)) c ≡ alive (m .alive) (mergeWeight s m) c
-        same c = unfold withMerges entryWeight entryAt mergeWeight alive in refl
+        same c = unfold withMerges entryWeight entryAt mergeWeight alive onRunning withEntries in refl
 
-    again-moves : Carries s (λ c. reinsertedTo s (withMerged 0 (dropped (m .alive) (withMerges t m))) c) (heldBy (dropped (m .alive) (withMerges t m)))
-        (heldBy (reinserted s (withMerged 0 (dropped (m .alive) (withMerges t m)))))
+    again-moves : Carries s (λ c. reinsertedTo s (onRunning (withMerged 0) (dropped (m .alive) (withMerges t m))) c) (heldBy (dropped (m .alive) (withMerges t m)))
+        (heldBy (reinserted s (onRunning (withMerged 0) (dropped (m .alive) (withMerges t m)))))
     again-moves a k =
-        let (u, v) = reinsert-carries s (withMerged 0 (dropped (m .alive) (withMerges t m))) {R = R} (unfold withMerged nodeAt in frame-v g n d h) a
+        let (u, v) = reinsert-carries s (onRunning (withMerged 0) (dropped (m .alive) (withMerges t m))) {R = R} (unfold withMerged nodeAt onRunning in frame-v g n d h) a
         (λ c. same c ∙ k c) in
-        (u, (λ ys x. v ys (unfold withMerged entryAt in x)))
+        (u, (λ ys x. v ys (unfold withMerged entryAt onRunning in x)))
       where
-        same : (c : ℕ) → entryWeight (withMerged 0 (dropped (m .alive) (withMerges t m))) c ≡ entryWeight (dropped (m .alive) (withMerges t m)) c
-        same c = unfold withMerged entryWeight entryAt in refl
+        same : (c : ℕ) → entryWeight (onRunning (withMerged 0) (dropped (m .alive) (withMerges t m))) c ≡ entryWeight (dropped (m .alive) (withMerges t m)) c
+        same c = unfold withMerged entryWeight entryAt onRunning in refl
 
     balance-moves : (across : Bool) → Carries s (λ c. rebalancedTo s across (dropped (m .alive) (withMerges t m)) c)
         (heldBy (dropped (m .alive) (withMerges t m))) (heldBy (rebalanced s across (dropped (m .alive) (withMerges t m))))
     unfolding rebalanced rebalancedTo
-    balance-moves across = go (across || leb (s .«max_leaves») ((dropped (m .alive) (withMerges t m)) .merged))
+    balance-moves across = go (across || leb (s .«max_leaves») ((dropped (m .alive) (withMerges t m)) .running .merged))
       where
-        go : (b : Bool) → Carries s (λ c. cond b (reinsertedTo s (withMerged 0 (dropped (m .alive) (withMerges t m))) c) c)
+        go : (b : Bool) → Carries s (λ c. cond b (reinsertedTo s (onRunning (withMerged 0) (dropped (m .alive) (withMerges t m))) c) c)
             (heldBy (dropped (m .alive) (withMerges t m)))
-            (heldBy (cond b (reinserted s (withMerged 0 (dropped (m .alive) (withMerges t m)))) (dropped (m .alive) (withMerges t m))))
+            (heldBy (cond b (reinserted s (onRunning (withMerged 0) (dropped (m .alive) (withMerges t m)))) (dropped (m .alive) (withMerges t m))))
         go true = again-moves
         go false = carries-same s (heldBy (dropped (m .alive) (withMerges t m))) (heldBy (dropped (m .alive) (withMerges t m))) (λ c. refl)
             (λ c. refl)
@@ -289,4 +290,4 @@ module _ {s : Settings} {t : Tree} {R : ℕ → ℕ} {total : ℕ} (g : Settled 
       v = mergedWith s (siblings s t (t .nodes)) t
 
       same : (c : ℕ) → entryAt (counted (refolded s v)) c ≡ entryAt v c
-      same c = unfold counted entryAt in ap (λ l. getD l c blank) (refolded-entries s v)
+      same c = unfold counted entryAt onRunning in ap (λ l. getD l c blank) (refolded-entries s v)

@@ -22,7 +22,7 @@ use Rattle.rules.specs.Split.{settled}
 use Rattle.rules.specs.Rebuild.{rebuilt, inserted}
 use Rattle.rules.specs.Check.{rowsIn}
 use Rattle.laws.specs.Invariant.Weights.{IsExact}
-use Rattle.laws.specs.Counters.{splitUp-entries}
+use Rattle.laws.specs.Running.{splitUp-entries}
 use Rattle.laws.specs.Inserting.Grown.{Hit, Whole}
 use Rattle.counting.specs.Count.{is, eq-test}
 use Rattle.counting.specs.Sums.{occurs-snoc, sum-at}
@@ -49,7 +49,7 @@ module _ (s : Settings) (x : List Float) (t : Tree) (total : ℕ) (small : total
       (nodeAt (alongPath (push s x) (leafFor t (λ c. distTo s c x)) t) (leafFor t (λ c. distTo s c x)) .list)
 
   exact : Holding s t total → (c : ℕ) → c < length (t .entries) → IsExact (entryAt t c) × (entryWeight t c < most)
-  exact (inl b) c h = let z : length (t .entries) ≡ 0 = ap (λ u. length (u .entries)) (b .0 .5) in absurd (omega arith)
+  exact (inl b) c h = let z : length (t .entries) ≡ 0 = ap (λ u. length (u .entries)) (b .0 .is) in absurd (omega arith)
   exact (inr w) c h = (w .1 .exact .at-entry c h, let a = sum-at (entryWeight t) c (length (t .entries)) h in let b = w .2 in omega arith)
 
   hit-in : Holding s t total → Hit (λ e. e < length (t .entries)) (hit)

@@ -31,7 +31,7 @@ use Rattle.laws.specs.Ownership.Rows.{grown-owned, grown-took}
 
 -- every entry owns a row
 pub owner-of : (s : Settings) (t : Tree) (total : ℕ) (a : List ℕ) → Holding s t total → Owned t a → (c : ℕ) → c < length (t .entries) → 0 < occurs c a
-owner-of s t total a (inl b) w c h = let z : length (t .entries) ≡ 0 = ap (λ u. length (u .entries)) (b .0 .5) in absurd (omega arith)
+owner-of s t total a (inl b) w c h = let z : length (t .entries) ≡ 0 = ap (λ u. length (u .entries)) (b .0 .is) in absurd (omega arith)
 owner-of s t total a (inr g) w c h = let p = g .1 .exact .some-entry c h in let q = w c in omega arith
 
 -- ---- before any rebuild

@@ -12,7 +12,7 @@ use Rattle.feature.specs.declared.Summary.{Summary}
 use Rattle.feature.specs.Summaries.{blank}
 use Rattle.head.specs.declared.Settings.{Settings}
 use Rattle.rules.specs.Lists.{countUp, occurs}
-use Rattle.rules.specs.Tree.{Tree, nodeAt, entryAt, withMerged}
+use Rattle.rules.specs.Tree.{Tree, nodeAt, entryAt, onRunning, withEntries}
 use Rattle.rules.specs.Pairs.{sorted, siblings, cousins}
 use Rattle.rules.specs.declared.Pair.{Pair}
 use Rattle.rules.specs.Rebuild.{Merging, mergeAll, bothAlive, dropped, withMerges, target, rebalanced, compacted, mergedBy, mergedWith, counted, rebuilt}
@@ -36,7 +36,8 @@ use Rattle.laws.specs.Rebuilding.Cousins.{FarPair, cousins-far, cousins-
 use Rattle.laws.specs.Rebuilding.Reinsert.{reinserted-whole}
 use Rattle.laws.specs.Rebuilding.Restored.{refolded-whole}
 use Rattle.laws.specs.Rebuilding.Refold.{counted-whole}
-use Rattle.laws.specs.Counters.{refolded-entries}
+use Rattle.laws.specs.Running.{refolded-entries}
+use Rattle.head.specs.Counting.{withMerged}
 
 abbrev pub mergeStart : Tree → Merging
 mergeStart t = record { entries = t .entries; alive = map (λ _. true) (t .entries); count = 0; widest = f0 }
@@ -95,19 +96,19 @@ module _ {s : Settings} {t : Tree} {R : ℕ → ℕ} {total : ℕ} (g : Settled 
     v = dropped (m .alive) (withMerges t m)
 
     links-u : Links s (nodeAt u) (length (u .nodes)) (u .root) (length (u .entries)) R nil nil nil
-    unfolding withMerges nodeAt
+    unfolding withMerges nodeAt onRunning withEntries
     links-u = subst (λ k. Links s (nodeAt t) (length (t .nodes)) (t .root) k R nil nil nil) (sym (d .len-e)) (g .links)
 
     len-u : length (m .alive) ≡ length (u .entries)
-    unfolding withMerges
+    unfolding withMerges onRunning withEntries
     len-u = d .len-a ∙ sym (d .len-e)
 
     live-u : (c : ℕ) → getD (m .alive) c false ≡ true → IsExact (entryAt u c) × (1 ≤ entryWeight u c)
-    unfolding withMerges entryWeight entryAt mergeWeight
+    unfolding withMerges entryWeight entryAt mergeWeight onRunning withEntries
     live-u c e = d .live c e
 
     sums-u : sumTo (alive (m .alive) (entryWeight u)) (length (u .entries)) ≡ total
-    unfolding withMerges entryWeight entryAt mergeWeight
+    unfolding withMerges entryWeight entryAt mergeWeight onRunning withEntries
     sums-u = ap (λ k. sumTo (alive (m .alive) (λ c. rowsIn (getD (m .entries) c blank))) k) (d .len-e) ∙ d .sums
 
     pub frame-v : Frame (nodeAt v) (length (v .nodes)) (v .root) (length (v .entries)) R
@@ -136,26 +137,26 @@ module _ {s : Settings} {t : Tree} {R : ℕ → ℕ} {total : ℕ} (g : Settled 
 
     -- reinserted
     abbrev pub w : Tree
-    w = withMerged 0 (dropped (m .alive) (withMerges t m))
+    w = onRunning (withMerged 0) (dropped (m .alive) (withMerges t m))
 
     pub frame-w : Frame (nodeAt w) (length (w .nodes)) (w .root) (length (w .entries)) R
-    unfolding withMerged nodeAt
+    unfolding onRunning nodeAt
     frame-w = frame-v
 
     pub rows-w : (k : ℕ) → k < length (w .entries) → IsExact (entryAt w k) × (1 ≤ entryWeight w k)
-    unfolding withMerged entryAt entryWeight
+    unfolding onRunning entryAt entryWeight
     rows-w = rows-v
 
     pub counted-w : Counted w total
-    unfolding withMerged entryAt entryWeight
+    unfolding onRunning entryAt entryWeight
     counted-w = counted-v
 
     pub length-w : length (w .entries) ≡ countUp (m .alive)
-    unfolding withMerged
+    unfolding onRunning
     length-w = length-v
 
     pub pos-w : 0 < length (w .entries)
-    unfolding withMerged
+    unfolding onRunning
     pos-w = pos-v
 
     pub reinserted-merged : Caps s → Whole s (reinserted s w) total × (length ((reinserted s w) .entries) ≡ countUp (m .alive))
@@ -166,25 +167,25 @@ module _ {s : Settings} {t : Tree} {R : ℕ → ℕ} {total : ℕ} (g : Settled 
     dropped-merged near = (drop-whole u (m .alive) total links-u len-u live-u sums-u st (g .exact .small) ex bd at-top inn lv, length-v)
       where
         ex : (k : ℕ) → k < length (u .nodes) → IsExact (nodeAt u k .summary)
-        ex = unfold withMerges nodeAt in (g .exact .at-node)
+        ex = unfold withMerges nodeAt onRunning withEntries in (g .exact .at-node)
 
         bd : (k : ℕ) → k < length (u .nodes) → nodeWeight u k ≤ total
-        bd = unfold withMerges nodeAt nodeWeight in (g .weighs .bound)
+        bd = unfold withMerges nodeAt nodeWeight onRunning withEntries in (g .weighs .bound)
 
         at-top : nodeWeight u (u .root) ≡ total
-        at-top = unfold withMerges nodeAt nodeWeight in (g .weighs .whole-tree)
+        at-top = unfold withMerges nodeAt nodeWeight onRunning withEntries in (g .weighs .whole-tree)
 
         inn₀ : (k : ℕ) → k < length (t .nodes) → nodeAt t k .leaf ≡ false → nodeWeight t k ≡ over (nodeWeight t) (nodeAt t k .list)
         inn₀ k l f = g .weighs .sums k l ∙ own-inner (nodeAt t k) (entryWeight t) (nodeWeight t) f
 
         inn : (k : ℕ) → k < length (u .nodes) → nodeAt u k .leaf ≡ false → nodeWeight u k ≡ over (nodeWeight u) (nodeAt u k .list)
-        inn = unfold withMerges nodeAt nodeWeight in inn₀
+        inn = unfold withMerges nodeAt nodeWeight onRunning withEntries in inn₀
 
         lv : (k : ℕ) → k < length (u .nodes) → nodeAt u k .leaf ≡ true → nodeWeight u k ≡ over (alive (m .alive) (entryWeight u)) (nodeAt u k .list)
-        lv = unfold withMerges nodeAt nodeWeight entryWeight entryAt mergeWeight in (near .leaves)
+        lv = unfold withMerges nodeAt nodeWeight entryWeight entryAt mergeWeight onRunning withEntries in (near .leaves)
 
         st : (k : ℕ) → k < length (u .nodes) → nodeAt u k .leaf ≡ true → 0 < over (alive (m .alive) (λ _. 1)) (nodeAt u k .list)
-        st = unfold withMerges nodeAt in (near .stay)
+        st = unfold withMerges nodeAt onRunning withEntries in (near .stay)
 
   -- ---- one merge at least
 
@@ -201,15 +202,15 @@ module _ {s : Settings} {t : Tree} {R : ℕ → ℕ} {total : ℕ} (g : Settled 
       fewer = let q = d .counted in omega arith
 
       balance : (a b : Bool) → across ≡ a
-          → Fewer (cond (a || b) (reinserted s (withMerged 0 (dropped (m .alive) (withMerges t m)))) (dropped (m .alive) (withMerges t m)))
+          → Fewer (cond (a || b) (reinserted s (onRunning (withMerged 0) (dropped (m .alive) (withMerges t m)))) (dropped (m .alive) (withMerges t m)))
       balance true b e = let r = reinserted-merged d h c in (r .0, (let q = r .1 in let f = fewer in omega arith))
       balance false true e = let r = reinserted-merged d h c in (r .0, (let q = r .1 in let f = fewer in omega arith))
       balance false false e = let r = dropped-merged d h (near e) in (r .0, (let q = r .1 in let f = fewer in omega arith))
 
-      go : (b : Bool) → eqb (m .count) 0 ≡ b → Fewer (cond b t (cond (across || leb (s .«max_leaves») ((dropped (m .alive) (withMerges t m)) .merged))
-          (reinserted s (withMerged 0 (dropped (m .alive) (withMerges t m)))) (dropped (m .alive) (withMerges t m))))
+      go : (b : Bool) → eqb (m .count) 0 ≡ b → Fewer (cond b t (cond (across || leb (s .«max_leaves») ((dropped (m .alive) (withMerges t m)) .running .merged))
+          (reinserted s (onRunning (withMerged 0) (dropped (m .alive) (withMerges t m)))) (dropped (m .alive) (withMerges t m))))
       go true e = let z = eq-test (m .count) 0 true e .0 refl in absurd (omega arith)
-      go false e = balance across (leb (s .«max_leaves») ((dropped (m .alive) (withMerges t m)) .merged)) refl
+      go false e = balance across (leb (s .«max_leaves») ((dropped (m .alive) (withMerges t m)) .running .merged)) refl
 
   pub living-first : (p : Pair) → FarPair (length (t .entries)) p → bothAlive p ((mergeStart t) .alive) ≡ true
   unfolding bothAlive
@@ -274,4 +275,4 @@ rebuilt-whole s t total c one w more =
     (counted-whole s (refolded s v) total (refolded-whole s v total (r .0)), subst (λ k. suc k ≤ length (t .entries)) (sym (same v)) (r .1))
   where
     same : (v : Tree) → length ((counted (refolded s v)) .entries) ≡ length (v .entries)
-    same v = unfold counted in ap (λ l. length l) (refolded-entries s v)
+    same v = unfold counted onRunning in ap (λ l. length l) (refolded-entries s v)

@@ -11,7 +11,7 @@ use Rattle.binary64.specs.Whole.{most}
 use Rattle.feature.specs.declared.Summary.{Summary}
 use Rattle.head.specs.declared.Settings.{Settings}
 use Rattle.rules.specs.Lists.{occurs}
-use Rattle.rules.specs.Tree.{merge, Tree, nodeAt, entryAt, child}
+use Rattle.rules.specs.Tree.{merge, Tree, nodeAt, entryAt, child, onRunning}
 use Rattle.rules.specs.Refold.{foldBalanced}
 use Rattle.rules.specs.Rebuild.{counted}
 use Rattle.rules.specs.Check.{rowsIn, totalOf}
@@ -74,11 +74,11 @@ pub counted-whole : (s : Settings) (t : Tree) (total : ℕ) → Whole s t total 
 counted-whole s t total w = (w .0, record { links = links′; exact = exact′; weighs = weighs′ }, count′)
   where
     links′ : Links s (nodeAt (counted t)) (length ((counted t) .nodes)) ((counted t) .root) (length ((counted t) .entries)) (w .0) nil nil nil
-    links′ = unfold counted nodeAt in (w .1 .links)
+    links′ = unfold counted nodeAt onRunning in (w .1 .links)
 
     exact′ : Exact (counted t) total
     exact′ =
-        unfold counted nodeAt entryAt entryWeight in record {
+        unfold counted nodeAt entryAt entryWeight onRunning in record {
           at-node = w .1 .exact .at-node;
           at-entry = w .1 .exact .at-entry;
           some-entry = w .1 .exact .some-entry;
@@ -86,7 +86,7 @@ counted-whole s t total w = (w .0, record { links = links′; exact = exact′; 
         }
 
     weighs′ : Weighs (nodeAt (counted t)) (entryWeight (counted t)) (nodeWeight (counted t)) (length ((counted t) .nodes)) ((counted t) .root) total
-    weighs′ = unfold counted nodeAt entryAt entryWeight nodeWeight in (w .1 .weighs)
+    weighs′ = unfold counted nodeAt entryAt entryWeight nodeWeight onRunning in (w .1 .weighs)
 
     count′ : Counted (counted t) total
-    count′ = unfold counted entryAt entryWeight in (w .2)
+    count′ = unfold counted entryAt entryWeight onRunning in (w .2)

@@ -17,7 +17,7 @@ use Rattle.rules.specs.Split.{settled}
 use Rattle.rules.specs.Reinsert.{collected, replaced, replacedAll, cleared, reinserted}
 use Rattle.rules.specs.Check.{rowsIn, totalOf}
 use Rattle.laws.specs.Invariant.Weights.{IsExact, blank-exact}
-use Rattle.laws.specs.Counters.{splitUp-entries}
+use Rattle.laws.specs.Running.{splitUp-entries}
 use Rattle.counting.specs.Lists.{snoc-length}
 use Rattle.counting.specs.Count.{is, same?, is-eq}
 use Rattle.counting.specs.Sums.{over, occurs-over, length-over, sumTo, sum-some, occurs-here, sum-ones, occurs-later}
@@ -117,7 +117,7 @@ module _ {s : Settings} (t : Tree) {R : ℕ → ℕ} (total : ℕ) (caps : Caps 
   unfolding reinserted cleared blankNode
   reinserted-whole =
       let u = cleared t in
-      let r = place-all s (reverse (map (entryAt t) all)) u 0 caps (inl (blank, t .threshold, t .rebuilds, t .merged, blank-exact, refl, refl)) list-rows
+      let r = place-all s (reverse (map (entryAt t) all)) u 0 caps (inl (blank, blank-exact, refl, refl)) list-rows
       (let a = list-total in let b = small in omega arith) in
       let k : 0 + totalOf (reverse (map (entryAt t) all)) ≡ total = let a = list-total in omega arith in
       let m : length ((reinserted s t) .entries) ≡ length (t .entries) = r .1 ∙ (let a = list-length in omega arith) in
@@ -125,4 +125,4 @@ module _ {s : Settings} (t : Tree) {R : ℕ → ℕ} (total : ℕ) (caps : Caps 
     where
       final : Ready s (reinserted s t) total → length ((reinserted s t) .entries) ≡ length (t .entries) → Whole s (reinserted s t) total
       final (inr w) m = w
-      final (inl q) m = let z : length ((reinserted s t) .entries) ≡ 0 = ap (λ v. length (v .entries)) (q .5) in absurd (omega arith)
+      final (inl q) m = let z : length ((reinserted s t) .entries) ≡ 0 = ap (λ v. length (v .entries)) (q .2) in absurd (omega arith)

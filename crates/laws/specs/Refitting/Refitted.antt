@@ -27,14 +27,14 @@ use Rattle.laws.specs.Ownership.Made.{AllMade}
 use Rattle.laws.specs.Ownership.Owned.{Owned}
 use Rattle.laws.specs.Refitting.Round.{u, bs, again-whole, w, few-u, moved-again, len-w, pos-u, all-stale, poured-owned, drop-stale, moved-u}
 use Rattle.laws.specs.Refitting.PouredMade.{pour-made}
-use Rattle.laws.specs.Counters.{reinserted-counters, refolded-entries, refolded-counters}
+use Rattle.laws.specs.Running.{reinserted-running, refolded-entries, refolded-running}
 
 -- ---- the rounds
 
 -- the rounds of a refit with rows xs left tree v and account a: right links and entries, each entry made of its rows, no more entries
 abbrev pub Ended : Settings → List (List Float) → ℕ → Tree → Tree → List ℕ → Type 0
 Ended s xs top t v a =
-    ((R : ℕ → ℕ) × Stale s v R (length xs)) × Owned v a × (length (v .entries) ≤ top) × (v .merged ≡ t .merged) × AllMade s xs (entryAt v) a
+    ((R : ℕ → ℕ) × Stale s v R (length xs)) × Owned v a × (length (v .entries) ≤ top) × (v .running ≡ t .running) × AllMade s xs (entryAt v) a
 
 and-not : (b c : Bool) → (not b && c) ≡ true → b ≡ false
 and-not true c e = absurd (false≢true e)
@@ -74,8 +74,8 @@ rounds-whole s xs top c pos small (suc k) r t R a g few z =
         made : AllMade s xs (entryAt after) owners
         made = moved-again xs small t g .1 xs (moved-u xs small t g .1 xs (pour-made xs small t g))
 
-        same : after .merged ≡ t .merged
-        same = ap (λ c. c .2) (reinserted-counters s (u xs small t g)) ∙ (unfold dropped withEntries withNodes in refl)
+        same : after .running ≡ t .running
+        same = reinserted-running s (u xs small t g) ∙ (unfold dropped withEntries withNodes in refl)
 
     go : (p : Bool) → every (λ b. b) (bs xs small t g) ≡ p → (q : Bool) → (not (anyHollow ((u xs small t g) .nodes)) && leb 1 r) ≡ q
         → ((v : Tree) (b : List ℕ) (S : ℕ → ℕ) → Links s (nodeAt v) (length (v .nodes)) (v .root) (length (v .entries)) S nil nil nil
@@ -106,11 +106,11 @@ rounds-whole s xs top c pos small (suc k) r t R a g few z =
 
 -- ---- the refit
 
--- rows into a tree with entries: the invariant, with the refit's rows as the total; no more entries; the merged total stays
+-- rows into a tree with entries: the invariant, with the refit's rows as the total; no more entries; what runs along stays
 pub refit-whole : (s : Settings) (x : List Float) (xs : List (List Float)) (t : Tree) (old : ℕ) (a : List ℕ) → Caps s → Whole s t old
     → 0 < length (t .entries) → suc (length xs) ≤ most
     → Whole s (refitted s (x ∷ xs) t) (suc (length xs)) × Owned (refitted s (x ∷ xs) t) (ownersRefit s (x ∷ xs) t a)
-    × (length ((refitted s (x ∷ xs) t) .entries) ≤ length (t .entries)) × ((refitted s (x ∷ xs) t) .merged ≡ t .merged)
+    × (length ((refitted s (x ∷ xs) t) .entries) ≤ length (t .entries)) × ((refitted s (x ∷ xs) t) .running ≡ t .running)
     × AllMade s (x ∷ xs) (entryAt (refitted s (x ∷ xs) t)) (ownersRefit s (x ∷ xs) t a)
 unfolding refitted ownersRefit
 refit-whole s x xs t old a c w pos small = go (eqb (length (t .entries)) 0) refl
@@ -132,8 +132,8 @@ refit-whole s x xs t old a c w pos small = go (eqb (length (t .entries)) 0) refl
     same-e : (refolded s v) .entries ≡ v .entries
     same-e = refolded-entries s v
 
-    same-m : (refolded s v) .merged ≡ v .merged
-    same-m = ap (λ c. c .2) (refolded-counters s v)
+    same-m : (refolded s v) .running ≡ v .running
+    same-m = refolded-running s v
 
     same-at : (c : ℕ) → entryAt (refolded s v) c ≡ entryAt v c
     same-at c = unfold entryAt in ap (λ l. getD l c blank) same-e
@@ -143,7 +143,7 @@ refit-whole s x xs t old a c w pos small = go (eqb (length (t .entries)) 0) refl
 
     go : (p : Bool) → eqb (length (t .entries)) 0 ≡ p
         → Whole s (cond p t (refolded s v)) (suc (length xs)) × Owned (cond p t (refolded s v)) (cond p a b)
-        × (length ((cond p t (refolded s v)) .entries) ≤ length (t .entries)) × ((cond p t (refolded s v)) .merged ≡ t .merged)
+        × (length ((cond p t (refolded s v)) .entries) ≤ length (t .entries)) × ((cond p t (refolded s v)) .running ≡ t .running)
         × AllMade s (x ∷ xs) (entryAt (cond p t (refolded s v))) (cond p a b)
     go true e = let z = eq-test (length (t .entries)) 0 true e .0 refl in absurd (omega arith)
     go false e = (

@@ -148,7 +148,7 @@ module _ {s : Settings} (xs : List (List Float)) (c : Caps s) (pos : 0 < length 
 
 -- a tree with entries is no empty one
 some-whole : {s : Settings} {t : Tree} {rows : ℕ} → Holding s t rows → 0 < length (t .entries) → Whole s t rows
-some-whole (inl b) pos = let n = ap (λ u. length (u .entries)) (b .0 .5) in absurd (omega arith)
+some-whole (inl b) pos = let n = ap (λ u. length (u .entries)) (b .0 .is) in absurd (omega arith)
 some-whole (inr w) pos = w
 
 -- every tree that a refit goes through

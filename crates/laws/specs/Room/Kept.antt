@@ -25,7 +25,7 @@ use Rattle.laws.specs.Invariant.Sound.{Caps}
 use Rattle.laws.specs.Room.Nodes.{room-links}
 use Rattle.laws.specs.Inserting.Grown.{Whole}
 use Rattle.laws.specs.Inserting.First.{Holding, grown-holds}
-use Rattle.laws.specs.Counters.{splitUp-entries}
+use Rattle.laws.specs.Running.{splitUp-entries}
 use Rattle.laws.specs.Rebuilding.Rebuilt.{rebuilt-whole}
 
 -- ---- N = (M+1)(M+2)/2 nodes suffice for M+1 entries
@@ -37,7 +37,7 @@ room-enough s t total w h = room-links (w .1 .links) h
 pub holding-room : (s : Settings) (t : Tree) (total : ℕ) → Holding s t total → length (t .entries) ≤ s .«max_leaves» + 1 → length (t .nodes) ≤ nodeCap s
 unfolding nodeCap
 holding-room s t total (inl q) h =
-    let n : length (t .nodes) ≡ 1 = ap (λ u. length (u .nodes)) (q .0 .5) in
+    let n : length (t .nodes) ≡ 1 = ap (λ u. length (u .nodes)) (q .0 .is) in
     let a : 1 ≤ s .«max_leaves» + 1 = omega arith in
     let b : 2 ≤ s .«max_leaves» + 2 = omega arith in
     let p : 1 * 2 ≤ (s .«max_leaves» + 1) * (s .«max_leaves» + 2) = mul-le-mul a b in

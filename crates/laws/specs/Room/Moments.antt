@@ -18,13 +18,13 @@ use Rattle.rules.specs.Split.{settled}
 use Rattle.rules.specs.Insert.{begun, grownAt, grown}
 use Rattle.rules.specs.Reinsert.{collected, cleared, replaced, replacedAll, reinserted}
 use Rattle.rules.specs.Check.{rowsIn, totalOf}
-use Rattle.laws.specs.Counters.{splitUp-entries}
+use Rattle.laws.specs.Running.{splitUp-entries}
 use Rattle.counting.specs.Lists.{snoc-length}
 use Rattle.laws.specs.Invariant.Weights.{IsExact, blank-exact}
 use Rattle.laws.specs.Invariant.Beneath.{Frame}
 use Rattle.laws.specs.Invariant.Sound.{Caps, caps-of, entryWeight}
 use Rattle.laws.specs.Inserting.Grown.{Counted, path-length, path-leaf}
-use Rattle.laws.specs.Inserting.First.{Holding, Ready, rowPlaced, row-placed, entryPlaced, entry-placed, place-ready}
+use Rattle.laws.specs.Inserting.First.{Holding, Ready, rowPlaced, row-placed, entryPlaced, entry-placed, place-ready, ready-holds}
 use Rattle.laws.specs.Rebuilding.Reinsert.{Rows, place-entries, list-rows, list-total, list-length}
 use Rattle.laws.specs.Room.Nodes.{Roomy, Within, within-roomy, Splitting, splitting-end, splitting-roomy}
 use Rattle.laws.specs.Room.Kept.{one-more, holding-room}
@@ -82,10 +82,6 @@ pub data Replacing (s : Settings) : List Summary → Tree → Tree → Type 0 wh
   splits : {e : Summary} {es : List Summary} {t u : Tree} → Splitting s (leafFor t (λ c. distBetween s c e)) (entryPlaced s e t) u → Replacing s (e ∷ es) t u
   next : {e : Summary} {es : List Summary} {t u : Tree} → Replacing s es (replaced s e t) u → Replacing s (e ∷ es) t u
 
-ready-holds : (s : Settings) (t : Tree) (total : ℕ) → Ready s t total → Holding s t total
-ready-holds s t total (inl q) = inl ((q .0, q .1, q .2, q .3, inl (q .4 .0), q .5), q .6)
-ready-holds s t total (inr w) = inr w
-
 -- every tree of a list of entries placed again
 pub replacing-roomy : {s : Settings} → Caps s → (es : List Summary) (t : Tree) {u : Tree} (total : ℕ) → Ready s t total → Rows es → total + totalOf es ≤ most
     → length (t .entries) + length es ≤ s .«max_leaves» + 1 → Replacing s es t u → Roomy s u
@@ -126,4 +122,4 @@ reinserting-roomy {s} t {u = u} total c g rows sums small pos few =
     let n = list-length t total c g rows sums small pos in
     let m = list-total t total c g rows sums small pos in
     replacing-roomy c (reverse (map (entryAt t) (collected t (length (t .nodes)) (t .root ∷ [])))) (cleared t) 0
-    (inl (blank, t .threshold, t .rebuilds, t .merged, blank-exact, refl, refl)) (list-rows t total c g rows sums small pos) (omega arith) (omega arith)
+    (inl (blank, blank-exact, refl, refl)) (list-rows t total c g rows sums small pos) (omega arith) (omega arith)

@@ -11,7 +11,7 @@ use lib.ListN.{length, getD}
 use Rattle.feature.specs.Summaries.{blank}
 use Rattle.feature.specs.declared.Summary.{Summary}
 use Rattle.head.specs.declared.Settings.{Settings}
-use Rattle.rules.specs.Tree.{Node, Tree, merge, nodeAt, blankNode, child, withNodes, withEntries, withMerged, summed}
+use Rattle.rules.specs.Tree.{Node, Tree, merge, nodeAt, blankNode, child, withNodes, withEntries, onRunning, summed}
 use Rattle.rules.specs.Pairs.{sorted, siblings, cousins}
 use Rattle.rules.specs.declared.Pair.{Pair}
 use Rattle.rules.specs.Reinsert.{reinserted}
@@ -29,6 +29,7 @@ use Rattle.laws.specs.Rebuilding.Cousins.{FarPair, cousins-far}
 use Rattle.laws.specs.Rebuilding.Rebuilt.{mergeStart, near-far, merges-merged, frame-w, rows-w, counted-w, length-w, pos-w}
 use Rattle.laws.specs.Room.Nodes.{Roomy, Within, within-then, within-roomy}
 use Rattle.laws.specs.Room.Moments.{holding-roomy, Reinserting, reinserting-end, reinserting-roomy}
+use Rattle.head.specs.Counting.{withMerged}
 
 -- ---- what adds nothing
 
@@ -57,7 +58,7 @@ refold-within s i t = record {
     anew n = summed (λ _. foldBalanced s (length (n .list)) (map (child t (n .leaf)) (n .list))) n
 
 pub counted-within : (t : Tree) → Within t (counted t)
-unfolding counted nodeAt
+unfolding counted nodeAt onRunning
 counted-within t = record { nodes = refl; entries = omega arith; leaf = (λ i. refl); lists = (λ i. omega arith) }
 
 -- ---- a refold: node after node
@@ -133,7 +134,7 @@ pub data Compacting (s : Settings) (t : Tree) : Tree → Type 0 where
   merging : {u : Tree} → Merges s t (length (t .entries) - target (s .«max_leaves»)) (sorted (pairsOf s t (siblings s t (t .nodes)))) (mergeStart t) u
       → Compacting s t u
   drops : Compacting s t (thinned s t)
-  reinserting : {u : Tree} → Reinserting s (withMerged 0 (thinned s t)) u → Compacting s t u
+  reinserting : {u : Tree} → Reinserting s (onRunning (withMerged 0) (thinned s t)) u → Compacting s t u
 
 pub data Rebuilding (s : Settings) (t : Tree) : Tree → Type 0 where
   compacting : {u : Tree} → Compacting s t u → Rebuilding s t u
@@ -148,11 +149,11 @@ compacting-end s t = go (siblings s t (t .nodes)) refl
     balance : (m : Merging) → mergesIn s t ≡ m → (across : Bool) → Compacting s t (compacted s across t m)
     balance m e across =
         subst (λ m. Compacting s t (compacted s across t m)) e
-        (unfold compacted rebalanced in pick (eqb (mergesIn s t .count) 0) (across || leb (s .«max_leaves») (thinned s t .merged)))
+        (unfold compacted rebalanced in pick (eqb (mergesIn s t .count) 0) (across || leb (s .«max_leaves») (thinned s t .running .merged)))
       where
-        pick : (a b : Bool) → Compacting s t (cond a t (cond b (reinserted s (withMerged 0 (thinned s t))) (thinned s t)))
+        pick : (a b : Bool) → Compacting s t (cond a t (cond b (reinserted s (onRunning (withMerged 0) (thinned s t))) (thinned s t)))
         pick true b = start
-        pick false true = reinserting (reinserting-end s (withMerged 0 (thinned s t)))
+        pick false true = reinserting (reinserting-end s (onRunning (withMerged 0) (thinned s t)))
         pick false false = drops
 
     by : (ps : List Pair) → pairsOf s t (siblings s t (t .nodes)) ≡ ps → (across : Bool) → Compacting s t (mergedBy s across ps t)
@@ -176,7 +177,7 @@ module _ {s : Settings} {t : Tree} {total : ℕ} (c : Caps s) (w : Whole s t tot
   before = holding-roomy s t total (inr w) few
 
   merged-within : Within t (withMerges t (mergesIn s t))
-  unfolding withMerges nodeAt
+  unfolding withMerges nodeAt onRunning withEntries
   merged-within = record { nodes = refl; entries = (let q = merged-all .len-e in omega arith); leaf = (λ i. refl); lists = (λ i. omega arith) }
 
   compacting-roomy : {u : Tree} → Compacting s t u → Roomy s u
@@ -187,7 +188,7 @@ module _ {s : Settings} {t : Tree} {total : ℕ} (c : Caps s) (w : Whole s t tot
       let d = merged-all in
       let n = length-w (w .1) (w .2) d pos in
       let q = d .counted in
-      reinserting-roomy (withMerged 0 (thinned s t)) total c (frame-w (w .1) (w .2) d pos) (rows-w (w .1) (w .2) d pos) (counted-w (w .1) (w .2) d pos)
+      reinserting-roomy (onRunning (withMerged 0) (thinned s t)) total c (frame-w (w .1) (w .2) d pos) (rows-w (w .1) (w .2) d pos) (counted-w (w .1) (w .2) d pos)
       (w .1 .exact .small) (pos-w (w .1) (w .2) d pos) (omega arith) r
 
   -- every tree that a rebuild goes through

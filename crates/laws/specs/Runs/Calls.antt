@@ -28,6 +28,8 @@ use Rattle.laws.specs.Ownership.Rows.{inserted-owned}
 use Rattle.laws.specs.Ownership.RowsMade.{inserted-made}
 use Rattle.laws.specs.Refitting.Refitted.{refit-whole}
 use Rattle.laws.specs.Runs.Merged.{inserted-merged}
+use Rattle.laws.specs.Running.{Below}
+use Rattle.head.specs.Counting.{newRunning}
 
 -- ---- a tree at rest and its account
 
@@ -49,7 +51,7 @@ module _ {s : Settings} (z : Sized s) where
   pub row-rests : (x : List Float) (t : Tree) (rows : ℕ) → AtRest s t rows → rows < most → AtRest s (inserted s x t) (suc rows)
   row-rests x t rows r h =
       let q = inserted-kept s x t rows (caps-of z) (z .most-some) (r .holds, r .few) h in
-      record { holds = inr (q .0); few = q .1; unsettled = inserted-merged s x t (z .most-some) (r .unsettled) }
+      record { holds = inr (q .0); few = q .1; below = inserted-merged s x t (z .most-some) (r .below) }
 
   -- and its account
   pub row-owning : (x : List Float) (t : Tree) (rows : ℕ) (a : List ℕ) → Owning s t rows a → rows < most
@@ -94,14 +96,13 @@ module _ {s : Settings} (z : Sized s) where
 
       go : Holding s t rows → Owning s (refitted s (x ∷ xs) t) (suc (length xs)) (ownersRefit s (x ∷ xs) t a)
           × AllMade s (x ∷ xs) (entryAt (refitted s (x ∷ xs) t)) (ownersRefit s (x ∷ xs) t a)
-      go (inl b) = absurd (some-entry (ap (λ u. length (u .entries)) (b .0 .5)))
+      go (inl b) = absurd (some-entry (ap (λ u. length (u .entries)) (b .0 .is)))
       go (inr w) =
           let q = refit-whole s x xs t rows a (caps-of z) w (let n = some-entry in omega arith) h in
           let few = q .2 in
-          let merged = q .3 in
+          let running = q .3 in
           let old = r .few in
-          let m = r .unsettled in
-          (record { rests = record { holds = inr (q .0); few = omega arith; unsettled = omega arith }; owned = q .1 }, q .4)
+          (record { rests = record { holds = inr (q .0); few = omega arith; below = subst (Below s) (sym running) (r .below) }; owned = q .1 }, q .4)
 
   -- an effective refit asks nothing of the account before it
   pub effective-owning : (xs : List (List Float)) (t : Tree) (rows : ℕ) (a : List ℕ) → AtRest s t rows → effective xs t ≡ true → length xs ≤ most
@@ -124,5 +125,5 @@ idle-refit s (x ∷ xs) t a e = go (eqb (length (t .entries)) 0) e _ _
     go false e u c = absurd (true≢false e)
 
 pub fresh-rests : {s : Settings} → Sized s → (h : Float) → AtRest s (fresh h) 0
-unfolding fresh
-fresh-rests {s} z h = record { holds = fresh-holds s h; few = omega arith; unsettled = z .most-some }
+unfolding fresh newRunning
+fresh-rests {s} z h = record { holds = fresh-holds s h; few = omega arith; below = z .most-some }

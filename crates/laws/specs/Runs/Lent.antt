@@ -30,6 +30,7 @@ use Rattle.laws.specs.Ownership.Owned.{Owned}
 use Rattle.laws.specs.Ownership.Account.{owned-account}
 use Rattle.laws.specs.Runs.Calls.{Owning, row-owning, batch-owning, effective-owning, idle-refit}
 use Rattle.laws.specs.Runs.Runs.{owned-length, effective-some}
+use Rattle.head.specs.declared.Running.{Running}
 
 -- ---- an account of any tree: each entry's number as often as it weighs, from number i on
 
@@ -84,34 +85,34 @@ lent-owning s t n ok = record { rests = passing-rests s t n ok; owned = standing
 
 -- ---- what the account says, of any tree at rest; an empty one may be lent with the root's weight −0.0
 
-empty-account : (z : Summary) (h : Float) (r m : ℕ) → z .weight ≡ whole 0 → Account (emptyTree z h r m) []
+empty-account : (z : Summary) (r : Running) → z .weight ≡ whole 0 → Account (emptyTree z r) []
 unfolding nodeAt rowsAmong
-empty-account z h r m e = record {
+empty-account z r e = record {
   owners = (λ i q. absurd (omega arith));
   entries = (λ c q. absurd (omega arith));
-  nodes = (λ k q. subst (λ j. nodeAt (emptyTree z h r m) j .summary .weight ≡ whole 0) (let z : 0 ≡ k = omega arith in z) e);
+  nodes = (λ k q. subst (λ j. nodeAt (emptyTree z r) j .summary .weight ≡ whole 0) (let z : 0 ≡ k = omega arith in z) e);
 }
 
 pub owning-account : {s : Settings} {t : Tree} {rows : ℕ} {a : List ℕ} → Owning s t rows a
-    → Account t a ⊎ ((a ≡ []) × ((z : Summary) × (h : Float) × (r : ℕ) × (m : ℕ) × (z .weight ≡ neg (whole 0)) × (t ≡ emptyTree z h r m)))
+    → Account t a ⊎ ((a ≡ []) × ((z : Summary) × (z .weight ≡ neg (whole 0)) × (t ≡ emptyTree z (t .running))))
 owning-account {s} {t} {rows} {a} o = go (o .rests .holds)
   where
     nil-of : (c : List ℕ) → length c ≡ 0 → c ≡ []
     nil-of [] e = refl
     nil-of (x ∷ c) e = absurd (omega arith)
 
-    go : Holding s t rows → Account t a ⊎ ((a ≡ []) × ((z : Summary) × (h : Float) × (r : ℕ) × (m : ℕ) × (z .weight ≡ neg (whole 0)) × (t ≡ emptyTree z h r m)))
+    go : Holding s t rows → Account t a ⊎ ((a ≡ []) × ((z : Summary) × (z .weight ≡ neg (whole 0)) × (t ≡ emptyTree z (t .running))))
     go (inr w) = inl (owned-account s t rows a w (o .owned))
-    go (inl b) = by (b .0 .4)
+    go (inl b) = by (b .0 .zero)
       where
         none : a ≡ []
         none = nil-of a (owned-length o ∙ b .1)
 
-        by : Zero (b .0 .0 .weight)
-            → Account t a ⊎ ((a ≡ []) × ((z : Summary) × (h : Float) × (r : ℕ) × (m : ℕ) × (z .weight ≡ neg (whole 0)) × (t ≡ emptyTree z h r m)))
+        by : Zero (b .0 .summary .weight)
+            → Account t a ⊎ ((a ≡ []) × ((z : Summary) × (z .weight ≡ neg (whole 0)) × (t ≡ emptyTree z (t .running))))
         by (inl e) =
-            inl (subst (λ c. Account t c) (sym none) (subst (λ u. Account u []) (sym (b .0 .5)) (empty-account (b .0 .0) (b .0 .1) (b .0 .2) (b .0 .3) e)))
-        by (inr e) = inr (none, (b .0 .0, b .0 .1, b .0 .2, b .0 .3, e, b .0 .5))
+            inl (subst (λ c. Account t c) (sym none) (subst (λ u. Account u []) (sym (b .0 .is)) (empty-account (b .0 .summary) (t .running) e)))
+        by (inr e) = inr (none, (b .0 .summary, e, b .0 .is))
 
 -- ---- every accepted call on a passing tree gives a passing tree
 

@@ -36,8 +36,10 @@ use Rattle.laws.specs.Shapes.{fresh-shaped, ShapedTree, batch-shaped, re
 use Rattle.laws.specs.Demand.{rowsIn, after, ownersIn, ownersAll, ownersRefit, Local, rowsRefit}
 use Rattle.laws.specs.Locality.Row.{no-rebuild, row-local}
 use Rattle.laws.specs.Runs.Runs.{Run, rest-total, run-owning, insert, refit}
-use Rattle.laws.specs.Runs.Threshold.{Fine, inserted-fine, all-fine, refitted-fine, fine-lent, limits-kept}
+use Rattle.laws.specs.Runs.Threshold.{inserted-fine, all-fine, refitted-fine, fine-lent, limits-kept}
 use Rattle.laws.specs.Runs.Fitting.{resting-fits}
+use Rattle.laws.specs.Running.{Fine}
+use Rattle.head.specs.Counting.{newRunning}
 
 changed-settings : (h : Head) (l : Lent) (t : Tree) → settingsOf (changed h l t .head) ≡ settingsOf h
 unfolding changed settingsOf withCounters
@@ -62,7 +64,7 @@ room-kept new old n h = let a = length-append new (drop (length new) old) in let
 
 -- one call from there: the rule's tree u, left in the buffers
 module _ (h : Head) (l : Lent) {ys : List (List Float)} {a : List ℕ} (p : Public h (l .floats) (l .links) ys a) where
-  pub next : (u : Tree) (zs : List (List Float)) (b : List ℕ) → (Fine (lentTree h (l .floats) (l .links) .threshold) → Fine (u .threshold))
+  pub next : (u : Tree) (zs : List (List Float)) (b : List ℕ) → (Fine (lentTree h (l .floats) (l .links) .running) → Fine (u .running))
       → Run (settingsOf h) (p .threshold) u zs b → ShapedTree (settingsOf h) u
       → Public (changed h l u .head) (changed h l u .lent .floats) (changed h l u .lent .links) zs b
   next u zs b fine r k = record {
@@ -215,10 +217,10 @@ module _ (h : Head) (fs : List Float) (ls : List ℕ) where
   new = settingsOf h
 
   fresh-made : allowed h ≡ true → floatsNeeded new ≤ length fs → linksNeeded new ≤ length ls → PublicMade (madeBy [] h fs ls)
-  unfolding madeBy fronted withCounters settingsOf lentTree countersOf newCounters fresh allowed sizesWithin choicesWithin
+  unfolding madeBy fronted withCounters settingsOf lentTree countersOf newCounters newRunning fresh allowed sizesWithin choicesWithin
   fresh-made ok p q =
       let z = allowed-sized h ok in
-      let thr = h .counters .threshold in
+      let thr = h .counters .running .threshold in
       let run : Run new thr (fresh thr) [] [] = Runs.created in
       let f = resting-fits z (fresh thr) 0 (run-owning z run .rests) (fresh-shaped new thr) in
       let back = stored new z (fresh thr) f (drop (length (floatsOf new (fresh thr))) fs) (drop (length (linksOf new (fresh thr))) ls) in

@@ -29,8 +29,10 @@ use Rattle.laws.specs.Ownership.Made.{AllMade}
 use Rattle.laws.specs.Ownership.Rows.{fresh-owned}
 use Rattle.laws.specs.Ownership.RowsMade.{owner-of}
 use Rattle.laws.specs.Ownership.Account.{owned-sum, owned-account, fresh-account}
-use Rattle.laws.specs.Runs.Threshold.{Fine, all-fine, refitted-fine}
+use Rattle.laws.specs.Runs.Threshold.{all-fine, refitted-fine}
 use Rattle.laws.specs.Runs.Calls.{Owning, batch-owning, batch-made, effective-owning, effective-made, idle-refit, fresh-rests}
+use Rattle.head.specs.Counting.{newRunning}
+use Rattle.laws.specs.Running.{InLimits, Fine}
 
 -- a run from a fresh tree of threshold h: the tree that it leaves, the rows since the last effective refit with that refit's own,
 -- and whose each of these rows is.
@@ -48,7 +50,7 @@ pub rest-total : {s : Settings} {t : Tree} {rows : ℕ} → AtRest s t rows → 
 rest-total {s} {t} {rows} r = go (r .holds)
   where
     go : Holding s t rows → totalOf (t .entries) ≡ rows
-    go (inl b) = ap (λ u. totalOf (u .entries)) (b .0 .5) ∙ (unfold totalOf in sym (b .1))
+    go (inl b) = ap (λ u. totalOf (u .entries)) (b .0 .is) ∙ (unfold totalOf in sym (b .1))
     go (inr w) = unfold entryWeight entryAt in (entries-sum blank (t .entries) ∙ w .2)
 
 pub effective-some : (xs : List (List Float)) (t : Tree) → effective xs t ≡ true → 0 < length (t .entries)
@@ -138,7 +140,7 @@ module _ {s : Settings} (z : Sized s) {h : Float} where
     where
       go : Owning s t (length ys) a → Holding s t (length ys) → Account t a
       go o (inl b) =
-          let e : t ≡ fresh h = run-empty r (ap (λ u. length (u .entries)) (b .0 .5)) in
+          let e : t ≡ fresh h = run-empty r (ap (λ u. length (u .entries)) (b .0 .is)) in
           let l : length a ≡ 0 = owned-length o ∙ b .1 in
           subst (λ u. Account u a) (sym e) (subst (λ c. Account (fresh h) c) (nil-of a l) (fresh-account h))
         where
@@ -168,7 +170,7 @@ run-keeps {s} z {h} {t} {ys} {a} r =
     }
 
 -- the threshold stays finite and not below 0, so that a run can always go on
-pub run-fine : {s : Settings} {h : Float} {t : Tree} {ys : List (List Float)} {a : List ℕ} → Run s h t ys a → Fine h → Fine (t .threshold)
-run-fine created f = unfold fresh in f
+pub run-fine : {s : Settings} {h : Float} {t : Tree} {ys : List (List Float)} {a : List ℕ} → Run s h t ys a → InLimits h → Fine (t .running)
+run-fine created f = unfold fresh newRunning in f
 run-fine {s} (insert {t} xs room r) f = all-fine s xs t (run-fine r f)
 run-fine {s} (refit {t} xs room r) f = refitted-fine s xs t (run-fine r f)

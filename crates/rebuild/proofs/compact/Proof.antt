@@ -7,8 +7,9 @@ use lib.ListN.{drop, set}
 use Rattle.rebuild.specs.Counted.{zero-same, floats-as, links-as, merged-zero, placed-again, left-placed}
 use Rattle.merging.specs.Numbering.{floats-kept, links-kept}
 use Rattle.reinsert.specs.Whole.{Reinsertable}
-use Rattle.rules.specs.Tree.{withMerged}
+use Rattle.rules.specs.Tree.{onRunning}
 use Rattle.rebuild.proofs.compact.Statement.{statement}
+use Rattle.head.specs.Counting.{withMerged}
 use Rattle.rebuild.proofs.compact.Tie as tie
 
 -- the start, from the merged ones dropped, and these, from the merged total set to 0
@@ -38,7 +39,7 @@ reinsert-requires c κs =
       ),
       (
         (start .pre .0 .2 .floats-in, omega arith),
-        subst (Reinsertable (a .s)) (sym (merged-zero (a .s) _ _ (drop .result) (zeroed .with-merged .result) zero ∙ ap (withMerged 0) (drop .ensures .1)))
+        subst (Reinsertable (a .s)) (sym (merged-zero (a .s) _ _ (drop .result) (zeroed .with-merged .result) zero ∙ ap (onRunning (withMerged 0)) (drop .ensures .1)))
             (start .pre .1 .again),
       ),
     )

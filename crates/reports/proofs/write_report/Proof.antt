@@ -17,7 +17,7 @@ write-entries-requires c κs =
     let start = write-counts .before .before .before .before .before .before in
     let a = start .args in
     let counts = write-counts .write-counts .ensures in
-    let short = counts-short (a .h .counters .entries) (a .h .counters .threshold) (a .h .counters .rebuilds) (a .total) in
+    let short = counts-short (a .h .counters .entries) (a .h .counters .running .threshold) (a .h .counters .running .rebuilds) (a .total) in
     (rw (c .before .settings .ensures) (start .pre .0 .entries), omega (arith, counts .end, wrote-long counts, short))
 
 returns : tie.Need-returns

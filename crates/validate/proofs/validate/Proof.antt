@@ -5,7 +5,7 @@ use borrow.Author.Tests.{not-true, not-false, lt-ltb, le-ltb}
 use lib.ListN.{length, drop}
 use Rattle.rules.specs.Slices.{treeOf}
 use Rattle.rules.specs.Tree.{Tree}
-use Rattle.rules.specs.Check.{unsettled, lowest, checked}
+use Rattle.rules.specs.Check.{mergedBelow, lowest, checked}
 use Rattle.arena.specs.Trees.{Floats, Links}
 use Prim.Native.Nat.{ℕ, suc, _≤_, _<_}
 use mathlib.Core.List.{[]}
@@ -170,14 +170,14 @@ unfolding conditions
 returns-7 c = fails 7 _ _ (met-6 (c .before .before)) (sym (c .before .summed .ensures) ∙ not-true _ (c .if7 .taken))
 
 returns-8 : tie.Need-returns-8
-unfolding conditions unsettled treeOf
+unfolding conditions mergedBelow treeOf
 returns-8 c = let start = start-7 (c .before .before .before) in fails 8 _ _ (met-7 (c .before .before .before))
-    (le-ltb (start .args .n .merged) (start .args .s .«max_leaves») (c .if8 .taken))
+    (le-ltb (start .args .n .running .merged) (start .args .s .«max_leaves») (c .if8 .taken))
 
 returns-9 : tie.Need-returns-9
-unfolding conditions unsettled treeOf lowest
+unfolding conditions mergedBelow treeOf lowest
 returns-9 c = let start = start-7 (c .before .before .before) in sym
-    (holds 8 _ [] (met-7 (c .before .before .before)) (lt-ltb (start .args .n .merged) (start .args .s .«max_leaves») (c .if8 .left)))
+    (holds 8 _ [] (met-7 (c .before .before .before)) (lt-ltb (start .args .n .running .merged) (start .args .s .«max_leaves») (c .if8 .left)))
 
 pub validate-spec : {M : Type 1} → statement M
 validate-spec = tie.close (tie.spec (λ c κs. search needs) returns rooted-requires returns-2 lists-fit-requires returns-3 hung-requires returns-4

@@ -53,7 +53,7 @@ returns c =
     let sizes = (c .before .before .before .before .before .before .before .before) in
     let new = c .before .before .before .before .before .empty in
     let settings = c .before .before .before .before .before .before .before .before .before .before .settings .ensures in
-    let empty : TreeLeft (settingsOf (a .h)) (fresh (a .h .counters .threshold)) (new .result) (new .last .1 .1 .0) (new .last .1 .1 .1 .0) =
+    let empty : TreeLeft (settingsOf (a .h)) (fresh (a .h .counters .running .threshold)) (new .result) (new .last .1 .1 .0) (new .last .1 .1 .1 .0) =
     rw settings at (new .ensures) in
     made-whole (a .h) (a .floats .now) (a .links .now) empty (c .with-counters .ensures)
     (new .kept .1 .1 .0 ∙ length-take-le _ _ (floats-end sizes)) (new .kept .1 .1 .1 .0 ∙ length-take-le _ _ (links-end sizes))

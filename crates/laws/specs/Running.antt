@@ -1,16 +1,19 @@
--- What a step leaves alone: splits and the refold touch the nodes and the root only; threshold,
--- rebuild count and merged total change in a rebuild's merges only.
-use Prim.Native.Nat.{ℕ, zero, suc}
+-- What runs along with a tree: what is asked of it, and the steps that leave it alone. Splits and the refold touch the nodes and the root only;
+-- threshold, rebuild count and merged total change in a rebuild only.
+use Prim.Native.Nat.{ℕ, zero, suc, _<_}
 use mathlib.Core.Path.{_≡_, refl, _∙_}
 use mathlib.Core.Bool.{Bool, true, false, not, _&&_}
 use mathlib.Core.List.{List, [], _∷_, map, reverse}
 use mathlib.Core.Option.{Option, none, some}
-use lib.Dec.{leb, eqb}
+use lib.Dec.{T, leb, eqb}
 use lib.ListN.{length}
-use lib.Ieee.{Float}
+use lib.Ieee.{Float, le}
+use lib.Ieee.Scale.{finite}
+use Rattle.binary64.specs.Operators.{f0}
 use Rattle.feature.specs.declared.Summary.{Summary}
 use Rattle.feature.specs.Summaries.{blank}
 use Rattle.head.specs.declared.Settings.{Settings}
+use Rattle.head.specs.declared.Running.{Running}
 use Rattle.rules.specs.declared.Nearest.{Nearest}
 use Rattle.rules.specs.declared.Nearest.the-variants.{Entry, Nothing}
 use Rattle.rules.specs.Lists.{every}
@@ -23,6 +26,21 @@ use Rattle.rules.specs.Refold.{refoldOne, refoldAll, refolded, preorder}
 use Rattle.rules.specs.Rebuild.{dropped}
 use Rattle.rules.specs.Refit.{reaccumulated, used, anyHollow, refitRounds, refitted}
 use Rattle.counting.specs.Count.{either}
+
+-- ---- what is asked of the numbers that run along
+
+abbrev pub InLimits : Float → Type 0
+InLimits h = T (finite h) × T (le f0 h)
+
+-- by an allowed head: the threshold is finite and not below 0
+abbrev pub Fine : Running → Type 0
+Fine r = InLimits (r .threshold)
+
+-- by the tree check: the merged total is below M
+abbrev pub Below : Settings → Running → Type 0
+Below s r = r .merged < s .«max_leaves»
+
+-- ---- what a step leaves alone
 
 module _ {B : Type 0} (f : Tree → B) (nodes : (ns : List Node) (t : Tree) → f (withNodes ns t) ≡ f t) (root : (r : ℕ) (t : Tree) → f (withRoot r t) ≡ f t) where
   next-keeps : (s : Settings) (go : ℕ → Tree → Tree) (i j : ℕ) (o : Option ℕ) (u : Tree) → ((p : ℕ) (v : Tree) → f (go p v) ≡ f v)
@@ -60,47 +78,44 @@ pub refolded-entries : (s : Settings) (t : Tree) → (refolded s t) .entries ≡
 unfolding withNodes withRoot
 refolded-entries s t = refolded-keeps (λ u. u .entries) (λ ns u. refl) (λ r u. refl) s t
 
--- ---- threshold, rebuild count and merged total
+-- ---- what runs along: threshold, rebuild count and merged total
 
-abbrev pub counters : Tree → Float × ℕ × ℕ
-counters t = (t .threshold, t .rebuilds, t .merged)
-
-settled-counters : (s : Settings) (i : ℕ) (t : Tree) → counters (settled s i t) ≡ counters t
+settled-running : (s : Settings) (i : ℕ) (t : Tree) → (settled s i t) .running ≡ t .running
 unfolding settled withNodes withRoot
-settled-counters s i t = splitUp-keeps counters (λ ns u. refl) (λ r u. refl) s (length (t .nodes)) i t
+settled-running s i t = splitUp-keeps (λ u. u .running) (λ ns u. refl) (λ r u. refl) s (length (t .nodes)) i t
 
-joined-counters : (s : Settings) (x : List Float) (l : ℕ) (r : Nearest) (t : Tree) → counters (absorbedOrBegun s x l r t) ≡ counters t
+joined-running : (s : Settings) (x : List Float) (l : ℕ) (r : Nearest) (t : Tree) → (absorbedOrBegun s x l r t) .running ≡ t .running
 unfolding absorbedOrBegun begun absorbed withNodes withEntries
-joined-counters s x l Nothing t = refl
-joined-counters s x l (Entry e) t = either (λ u. counters u ≡ counters t) (absorbs s x e t) (absorbed s x e t) (begun l (push s x blank) t) refl refl
+joined-running s x l Nothing t = refl
+joined-running s x l (Entry e) t = either (λ u. u .running ≡ t .running) (absorbs s x e t) (absorbed s x e t) (begun l (push s x blank) t) refl refl
 
-pub grown-counters : (s : Settings) (x : List Float) (t : Tree) → counters (grown s x t) ≡ counters t
+pub grown-running : (s : Settings) (x : List Float) (t : Tree) → (grown s x t) .running ≡ t .running
 unfolding grown grownAt placed alongPath withNodes
-grown-counters s x t =
+grown-running s x t =
     let l = leafFor t (λ c. distTo s c x) in
     let u = alongPath (push s x) l t in
-    settled-counters s l (placed s x l u) ∙ joined-counters s x l (searched (λ e. distTo s (entryAt u e) x) (nodeAt u l .list)) u
+    settled-running s l (placed s x l u) ∙ joined-running s x l (searched (λ e. distTo s (entryAt u e) x) (nodeAt u l .list)) u
 
-replacedAll-counters : (s : Settings) (es : List Summary) (t : Tree) → counters (replacedAll s es t) ≡ counters t
+replacedAll-running : (s : Settings) (es : List Summary) (t : Tree) → (replacedAll s es t) .running ≡ t .running
 unfolding replacedAll replaced begun withNodes withEntries alongPath
-replacedAll-counters s [] t = refl
-replacedAll-counters s (e ∷ es) t =
+replacedAll-running s [] t = refl
+replacedAll-running s (e ∷ es) t =
     let l = leafFor t (λ c. distBetween s c e) in
-    replacedAll-counters s es (replaced s e t) ∙ settled-counters s l (begun l e (alongPath (λ c. merge s c e) l t))
+    replacedAll-running s es (replaced s e t) ∙ settled-running s l (begun l e (alongPath (λ c. merge s c e) l t))
 
-pub reinserted-counters : (s : Settings) (t : Tree) → counters (reinserted s t) ≡ counters t
+pub reinserted-running : (s : Settings) (t : Tree) → (reinserted s t) .running ≡ t .running
 unfolding reinserted cleared
-reinserted-counters s t = replacedAll-counters s (reverse (map (entryAt t) (collected t (length (t .nodes)) (t .root ∷ [])))) (cleared t)
+reinserted-running s t = replacedAll-running s (reverse (map (entryAt t) (collected t (length (t .nodes)) (t .root ∷ [])))) (cleared t)
 
-pub refolded-counters : (s : Settings) (t : Tree) → counters (refolded s t) ≡ counters t
+pub refolded-running : (s : Settings) (t : Tree) → (refolded s t) .running ≡ t .running
 unfolding withNodes withRoot
-refolded-counters s t = refolded-keeps counters (λ ns u. refl) (λ r u. refl) s t
+refolded-running s t = refolded-keeps (λ u. u .running) (λ ns u. refl) (λ r u. refl) s t
 
-rounds-counters : (s : Settings) (xs : List (List Float)) (k r : ℕ) (t : Tree) → counters (refitRounds s xs k r t) ≡ counters t
+rounds-running : (s : Settings) (xs : List (List Float)) (k r : ℕ) (t : Tree) → (refitRounds s xs k r t) .running ≡ t .running
 unfolding refitRounds dropped withEntries withNodes
-rounds-counters s xs zero r t = refl
-rounds-counters s xs (suc k) r t =
-    go (every (λ b. b) alive) (not (anyHollow (u .nodes)) && leb 1 r) (rounds-counters s xs k (suc r) (reinserted s u) ∙ reinserted-counters s u)
+rounds-running s xs zero r t = refl
+rounds-running s xs (suc k) r t =
+    go (every (λ b. b) alive) (not (anyHollow (u .nodes)) && leb 1 r) (rounds-running s xs k (suc r) (reinserted s u) ∙ reinserted-running s u)
   where
     alive : List Bool
     alive = map used (reaccumulated s t xs)
@@ -108,21 +123,21 @@ rounds-counters s xs (suc k) r t =
     u : Tree
     u = dropped alive (withEntries (reaccumulated s t xs) t)
 
-    go : (p q : Bool) → counters (refitRounds s xs k (suc r) (reinserted s u)) ≡ counters t
-        → counters (elim p as (λ _. Tree) [
+    go : (p q : Bool) → (refitRounds s xs k (suc r) (reinserted s u)) .running ≡ t .running
+        → (elim p as (λ _. Tree) [
           | true ↦ withEntries (reaccumulated s t xs) t
           | false ↦ elim q as (λ _. Tree)
               [ true ↦ u | false ↦ refitRounds s xs k (suc r) (reinserted s u) ]
-        ]) ≡ counters t
+        ]) .running ≡ t .running
     go true q ih = refl
     go false true ih = refl
     go false false ih = ih
 
 -- threshold, merged total and rebuild count stay
-pub refitted-counters : (s : Settings) (xs : List (List Float)) (t : Tree) → counters (refitted s xs t) ≡ counters t
+pub refitted-running : (s : Settings) (xs : List (List Float)) (t : Tree) → (refitted s xs t) .running ≡ t .running
 unfolding refitted
-refitted-counters s [] t = refl
-refitted-counters s (x ∷ xs) t =
+refitted-running s [] t = refl
+refitted-running s (x ∷ xs) t =
     let v = refitRounds s (x ∷ xs) (length (t .entries)) 0 t in
-    either (λ u. counters u ≡ counters t) (eqb (length (t .entries)) 0) t (refolded s v) refl (refolded-counters s v
-    ∙ rounds-counters s (x ∷ xs) (length (t .entries)) 0 t)
+    either (λ u. u .running ≡ t .running) (eqb (length (t .entries)) 0) t (refolded s v) refl (refolded-running s v
+    ∙ rounds-running s (x ∷ xs) (length (t .entries)) 0 t)

@@ -25,12 +25,12 @@ use Rattle.laws.specs.Shapes.{fresh-shaped}
 use Rattle.laws.specs.Runs.Calls.{fresh-rests}
 use Rattle.laws.specs.Runs.Fitting.{resting-fits}
 use Rattle.laws.specs.Runs.OneCall.{Public, after-create}
-use Rattle.refusals.specs.Granted.{Roomy}
 use Rattle.reasons.specs.declared.Reason.{Reason}
 use Rattle.lines.specs.declared.Run.{Run}
 use Rattle.lines.specs.declared.Stage.the-variants as Stages
 use Rattle.lines.specs.Runs.{listedAt, listed, Stands, LineRead, badRun, bad-read}
 use Rattle.lines.specs.Lines.{first-none}
+use Rattle.rules.specs.CallLaws.{Roomy}
 
 -- ---- a head that line 1 sets
 

@@ -18,8 +18,8 @@ use Rattle.rules.specs.Tree.{Tree}
 use Rattle.rules.specs.Rebuild.{inserted, insertedAll}
 use Rattle.rules.specs.Check.{checked, totalOf}
 use Rattle.rules.specs.Slices.{countersOf}
-use Rattle.rules.specs.Calls.{Lent, Left, unless, rowRefusals, lentTree, changed, rowShapeRefusal, insertFullRefusal}
-use Rattle.rules.specs.CallLaws.{Ready}
+use Rattle.rules.specs.Calls.{Lent, Left, unless, rowAsked, lentTree, changed, rowShapeRefusal, insertFullRefusal}
+use Rattle.rules.specs.CallLaws.{Ready, changed-settings}
 use Rattle.rules.specs.Cleared.{changed-tree}
 use Rattle.rules.specs.Listing.{badLine, rowIn, lineIn, rowsListed}
 use Rattle.rules.specs.declared.Verdict.the-variants.{Passes}
@@ -66,7 +66,7 @@ module _ {n : ℕ} {h : Head} {fs : List Float} {ks : List ℕ} (g : Grown n h f
 
 -- the lines l that say the row x
 abbrev pub Says : Settings → Tree → List Float → List ℕ → Type 0
-Says s t x l = lineIn s t l ≡ rowIn s t x (rowRefusals s t x)
+Says s t x l = lineIn s t l ≡ rowIn s t x (rowAsked s t x)
 
 module _ (run : Run) (l : List ℕ) (fs : List Float) (ks : List ℕ) (before after : List Float) {a : RowLine}
     (w : RowRead (run .head .dim) (floatsIn l) before after a) where
@@ -125,12 +125,12 @@ module _ (run : Run) (l : Lent) (g : Grown (run .number) (run .head) (l .floats)
   workable k = record { rows = length (g .rows); rests = grown-rests g; room = (let n = g .number in omega arith) }
 
   module _ (e : length x ≡ run .head .dim) where
-    full-wrong : most + 1 < run .number → rowRefusals s t x ≡ Full ∷ []
-    unfolding rowRefusals rowShapeRefusal insertFullRefusal unless settingsOf
+    full-wrong : most + 1 < run .number → rowAsked s t x ≡ Full ∷ []
+    unfolding rowAsked rowShapeRefusal insertFullRefusal unless settingsOf
     full-wrong k = let n = grown-total g in rw (eq-eqb (length x) (run .head .dim) e, lt-leb (totalOf (t .entries) + 1) most (omega arith))
 
-    none-wrong : run .number ≤ most + 1 → rowRefusals s t x ≡ []
-    unfolding rowRefusals rowShapeRefusal insertFullRefusal unless settingsOf
+    none-wrong : run .number ≤ most + 1 → rowAsked s t x ≡ []
+    unfolding rowAsked rowShapeRefusal insertFullRefusal unless settingsOf
     none-wrong k = let n = grown-total g in rw (eq-eqb (length x) (run .head .dim) e, le-leb (totalOf (t .entries) + 1) most (omega arith))
 
     -- a full tree refuses the row: the line is bad
@@ -168,7 +168,7 @@ module _ (run : Run) (l : Lent) (g : Grown (run .number) (run .head) (l .floats)
       head-is = ap (λ (o : Left). o .head) as-changed ∙ (unfold changed in refl)
 
       settings-are : settingsOf (o .head) ≡ s
-      settings-are = ap settingsOf head-is ∙ (unfold settingsOf withCounters in refl)
+      settings-are = ap (λ (o : Left). settingsOf (o .head)) as-changed ∙ changed-settings h l u
 
       grown-next : Grown (run .number + 1) (o .head) (o .lent .floats) (o .lent .links)
       grown-next = record {

@@ -1,12 +1,12 @@
 // The refusals of one row, of a batch and of a refit.
 ghost use mathlib.Core.Path.{_≡_};
 ghost use mathlib.Core.List.{_++_};
-ghost use Prim.Native.Nat.{_≤_, _<_, _/_};
+ghost use Prim.Native.Nat.{_≤_, _<_};
 ghost use lib.ListN.{length};
 ghost use Rattle.binary64.specs.Whole.{most};
 ghost use Rattle.head.specs.Heads.{settingsOf};
 ghost use Rattle.rules.specs.Check.{totalOf};
-ghost use Rattle.rules.specs.Calls.{answerOf, batchShapeRefusal, insertFullRefusal, refitFullRefusal, changeRefusals, rowRefusals, batchRefusals, lentTree};
+ghost use Rattle.rules.specs.Calls.{answerOf, batchShapeRefusal, insertFullRefusal, refitFullRefusal, changeRefusals, rowsAsked, rowRefusals, batchRefusals, refitRefusals};
 ghost use Rattle.arena.specs.Trees.{AnyLinks, Floats};
 ghost use Rattle.lists.specs.Lent.{EntriesCount};
 ghost use Rattle.refusals.specs.Lending.{lending, AnyTree};
@@ -64,8 +64,7 @@ pub fn row(
     row: &[f64],
 ) -> Answer
     ensures { λ r. ⌜ r ≡ answerOf (
-        changeRefusals h (lending (now (floats .entry)) (now (links .entry)) (now (scratch .entry)) (now (numbers .entry)))
-        ++ rowRefusals (settingsOf h) (lentTree h (now (floats .entry)) (now (links .entry))) (now (row .entry))) ⌝ }
+        rowRefusals h (lending (now (floats .entry)) (now (links .entry)) (now (scratch .entry)) (now (numbers .entry))) (now (row .entry))) ⌝ }
 {
     let a = lent::change(h, floats, links, scratch, numbers);
     let Answer::Accepted = a else {
@@ -78,6 +77,26 @@ pub fn row(
     full(s, h.counters, floats, 1)
 }
 
+// The rows of a batch or a refit, before they are counted.
+fn rows_asked(
+    h: Head,
+    floats: &[f64],
+    links: &[u32],
+    scratch: &[f64],
+    numbers: &[u32],
+    rows: &[f64],
+) -> Answer
+    ensures { λ r. ⌜ r ≡ answerOf (
+        changeRefusals h (lending (now (floats .entry)) (now (links .entry)) (now (scratch .entry)) (now (numbers .entry)))
+        ++ rowsAsked (settingsOf h) (now (rows .entry))) ⌝ }
+{
+    let a = lent::change(h, floats, links, scratch, numbers);
+    let Answer::Accepted = a else {
+        return a;
+    };
+    shape(h.dim, rows.len())
+}
+
 // A batch of rows.
 pub fn batch(
     h: Head,
@@ -88,19 +107,13 @@ pub fn batch(
     rows: &[f64],
 ) -> Answer
     ensures { λ r. ⌜ r ≡ answerOf (
-        changeRefusals h (lending (now (floats .entry)) (now (links .entry)) (now (scratch .entry)) (now (numbers .entry)))
-        ++ batchRefusals (settingsOf h) (lentTree h (now (floats .entry)) (now (links .entry))) (now (rows .entry))) ⌝ }
+        batchRefusals h (lending (now (floats .entry)) (now (links .entry)) (now (scratch .entry)) (now (numbers .entry))) (now (rows .entry))) ⌝ }
 {
-    let a = lent::change(h, floats, links, scratch, numbers);
+    let a = rows_asked(h, floats, links, scratch, numbers, rows);
     let Answer::Accepted = a else {
         return a;
     };
-    let s = h.settings();
-    let b = shape(s.dim, rows.len());
-    let Answer::Accepted = b else {
-        return b;
-    };
-    full(s, h.counters, floats, rows.len() / s.dim)
+    full(h.settings(), h.counters, floats, rows.len() / h.dim)
 }
 
 // The rows of a refit.
@@ -113,18 +126,11 @@ pub fn refit(
     rows: &[f64],
 ) -> Answer
     ensures { λ r. ⌜ r ≡ answerOf (
-        changeRefusals h (lending (now (floats .entry)) (now (links .entry)) (now (scratch .entry)) (now (numbers .entry)))
-        ++ (batchShapeRefusal (settingsOf h .dim) (length (now (rows .entry)))
-        ++ refitFullRefusal (lentTree h (now (floats .entry)) (now (links .entry))) (length (now (rows .entry)) / settingsOf h .dim))) ⌝ }
+        refitRefusals h (lending (now (floats .entry)) (now (links .entry)) (now (scratch .entry)) (now (numbers .entry))) (now (rows .entry))) ⌝ }
 {
-    let a = lent::change(h, floats, links, scratch, numbers);
+    let a = rows_asked(h, floats, links, scratch, numbers, rows);
     let Answer::Accepted = a else {
         return a;
     };
-    let s = h.settings();
-    let b = shape(s.dim, rows.len());
-    let Answer::Accepted = b else {
-        return b;
-    };
-    refit_full(h.counters.entries, rows.len() / s.dim)
+    refit_full(h.counters.entries, rows.len() / h.dim)
 }

@@ -1,10 +1,7 @@
 // The refusals of routing and of the spread.
 ghost use mathlib.Core.Path.{_≡_};
 ghost use mathlib.Core.List.{_++_};
-ghost use Prim.Native.Nat.{_*_, _/_};
-ghost use lib.ListN.{length};
-ghost use Rattle.head.specs.Heads.{settingsOf};
-ghost use Rattle.rules.specs.Calls.{answerOf, batchShapeRefusal, emptyRefusal, outputRefusal, treeRefusals, lentTree};
+ghost use Rattle.rules.specs.Calls.{answerOf, emptyRefusal, outputRefusal, routeRefusals, spreadRefusals};
 ghost use Rattle.refusals.specs.Lending.{AnyTree};
 use crate::change;
 use crate::lent;
@@ -48,11 +45,7 @@ fn routes(entries: usize, rows: usize, long: usize) -> Answer
 
 // Rows routed to an output.
 pub fn route(h: Head, floats: &[f64], links: &[u32], rows: &[f64], out: &[u32]) -> Answer
-    ensures { λ r. ⌜ r ≡ answerOf (
-        treeRefusals h (now (floats .entry)) (now (links .entry))
-        ++ (batchShapeRefusal (settingsOf h .dim) (length (now (rows .entry)))
-        ++ (emptyRefusal (lentTree h (now (floats .entry)) (now (links .entry))) (length (now (rows .entry)) / settingsOf h .dim)
-        ++ outputRefusal (length (now (rows .entry)) / settingsOf h .dim) (length (now (out .entry)))))) ⌝ }
+    ensures { λ r. ⌜ r ≡ answerOf (routeRefusals h (now (floats .entry)) (now (links .entry)) (now (rows .entry)) (now (out .entry))) ⌝ }
 {
     let a = lent::look(h, floats, links);
     let Answer::Accepted = a else {
@@ -67,9 +60,7 @@ pub fn route(h: Head, floats: &[f64], links: &[u32], rows: &[f64], out: &[u32]) 
 
 // The spread of every entry to an output.
 pub fn spread(h: Head, floats: &[f64], links: &[u32], out: &[f64]) -> Answer
-    ensures { λ r. ⌜ r ≡ answerOf (
-        treeRefusals h (now (floats .entry)) (now (links .entry))
-        ++ outputRefusal (length (lentTree h (now (floats .entry)) (now (links .entry)) .entries) * settingsOf h .dim) (length (now (out .entry)))) ⌝ }
+    ensures { λ r. ⌜ r ≡ answerOf (spreadRefusals h (now (floats .entry)) (now (links .entry)) (now (out .entry))) ⌝ }
 {
     let a = lent::look(h, floats, links);
     let Answer::Accepted = a else {

@@ -89,21 +89,86 @@ pub record Left : Type 0 where
 unfoldable pub lentTree : Head → List Float → List ℕ → Tree
 lentTree h fs ls = treeOf (settingsOf h) (h .counters) fs ls
 
--- 1, 2 and 3 for the two slices that hold a tree
+-- ---- the refusals of each call, a line a number: first 1, 2 and 3
+
+-- creation: 1 and 2 for the two slices that hold a tree
+unfoldable pub createRefusals : Head → List Float → List ℕ → List Refusal
+createRefusals h fs ls =
+    let s = settingsOf h in
+    settingsRefusal h  -- 1
+    ++ (roomRefusal (floatsNeeded s) (length fs)  -- 2
+    ++ roomRefusal (linksNeeded s) (length ls))  -- 2
+
+-- a call that only reads the tree
 unfoldable pub treeRefusals : Head → List Float → List ℕ → List Refusal
 treeRefusals h fs ls =
-    let s = settingsOf h in
-    settingsRefusal h ++ (roomRefusal (floatsNeeded s) (length fs) ++ (roomRefusal (linksNeeded s) (length ls) ++ treeRefusal (checked s (lentTree h fs ls))))
+    createRefusals h fs ls  -- 1 and 2
+    ++ treeRefusal (checked (settingsOf h) (lentTree h fs ls))  -- 3
 
--- the same with scratch
+-- a call that changes the tree: scratch before the tree
 unfoldable pub changeRefusals : Head → Lent → List Refusal
 changeRefusals h l =
     let s = settingsOf h in
-    settingsRefusal h
-    ++ (roomRefusal (floatsNeeded s) (length (l .floats))
-    ++ (roomRefusal (linksNeeded s) (length (l .links))
-    ++ (roomRefusal (scratchFloatsNeeded s) (length (l .scratchFloats))
-    ++ (roomRefusal (scratchLinksNeeded s) (length (l .scratchLinks)) ++ treeRefusal (checked s (lentTree h (l .floats) (l .links)))))))
+    createRefusals h (l .floats) (l .links)  -- 1 and 2
+    ++ (roomRefusal (scratchFloatsNeeded s) (length (l .scratchFloats))  -- 2
+    ++ (roomRefusal (scratchLinksNeeded s) (length (l .scratchLinks))  -- 2
+    ++ treeRefusal (checked s (lentTree h (l .floats) (l .links)))))  -- 3
+
+-- ---- after them, what each call asks of the tree t
+
+-- one row
+unfoldable pub rowAsked : Settings → Tree → List Float → List Refusal
+rowAsked s t x =
+    rowShapeRefusal (s .dim) (length x)  -- 4
+    ++ insertFullRefusal t 1  -- 6
+
+-- the rows of a batch or a refit, before they are counted
+unfoldable pub rowsAsked : Settings → List Float → List Refusal
+rowsAsked s xs =
+    batchShapeRefusal (s .dim) (length xs)  -- 4
+
+-- a batch of rows
+unfoldable pub batchAsked : Settings → Tree → List Float → List Refusal
+batchAsked s t xs =
+    rowsAsked s xs  -- 4
+    ++ insertFullRefusal t (length xs / s .dim)  -- 6
+
+-- a refit
+unfoldable pub refitAsked : Settings → Tree → List Float → List Refusal
+refitAsked s t xs =
+    rowsAsked s xs  -- 4
+    ++ refitFullRefusal t (length xs / s .dim)  -- 6
+
+-- rows routed to an output
+unfoldable pub routeAsked : Settings → Tree → List Float → List ℕ → List Refusal
+routeAsked s t xs out =
+    batchShapeRefusal (s .dim) (length xs)  -- 4
+    ++ (emptyRefusal t (length xs / s .dim)  -- 5
+    ++ outputRefusal (length xs / s .dim) (length out))  -- 7
+
+-- the spread of every entry to an output
+unfoldable pub spreadAsked : Settings → Tree → List Float → List Refusal
+spreadAsked s t out =
+    outputRefusal (length (t .entries) * s .dim) (length out)  -- 7
+
+-- ---- the whole lists
+
+unfoldable pub rowRefusals : Head → Lent → List Float → List Refusal
+rowRefusals h l x = changeRefusals h l ++ rowAsked (settingsOf h) (lentTree h (l .floats) (l .links)) x
+
+unfoldable pub batchRefusals : Head → Lent → List Float → List Refusal
+batchRefusals h l xs = changeRefusals h l ++ batchAsked (settingsOf h) (lentTree h (l .floats) (l .links)) xs
+
+unfoldable pub refitRefusals : Head → Lent → List Float → List Refusal
+refitRefusals h l xs = changeRefusals h l ++ refitAsked (settingsOf h) (lentTree h (l .floats) (l .links)) xs
+
+unfoldable pub routeRefusals : Head → List Float → List ℕ → List Float → List ℕ → List Refusal
+routeRefusals h fs ls xs out = treeRefusals h fs ls ++ routeAsked (settingsOf h) (lentTree h fs ls) xs out
+
+unfoldable pub spreadRefusals : Head → List Float → List ℕ → List Float → List Refusal
+spreadRefusals h fs ls out = treeRefusals h fs ls ++ spreadAsked (settingsOf h) (lentTree h fs ls) out
+
+-- ---- a changing call: done, or refused
 
 module _ {A : Type 0} where
   -- new in front, the rest as lent
@@ -130,7 +195,7 @@ unfoldable pub settle : List Refusal → Head → Lent → Left → Left
 settle [] h l done = done
 settle (r ∷ rs) h l done = record { head = h; answer = Refused r; lent = l }
 
--- ---- creation: 1 and 2 only
+-- ---- creation
 
 pub record Made : Type 0 where
   pub head : Head
@@ -150,44 +215,30 @@ madeBy [] h fs ls =
     }
 madeBy (r ∷ rs) h fs ls = record { head = h; answer = Refused r; floats = fs; links = ls }
 
-unfoldable pub createRefusals : Head → List Float → List ℕ → List Refusal
-createRefusals h fs ls =
-    let s = settingsOf h in
-    settingsRefusal h ++ (roomRefusal (floatsNeeded s) (length fs) ++ roomRefusal (linksNeeded s) (length ls))
-
 unfoldable pub created : Head → List Float → List ℕ → Made
 created h fs ls = madeBy (createRefusals h fs ls) h fs ls
 
 -- ---- insert
 
--- 4 and 6 for one row and for a batch of so many rows
-unfoldable pub rowRefusals : Settings → Tree → List Float → List Refusal
-rowRefusals s t x = rowShapeRefusal (s .dim) (length x) ++ insertFullRefusal t 1
-
-unfoldable pub batchRefusals : Settings → Tree → List Float → List Refusal
-batchRefusals s t xs = batchShapeRefusal (s .dim) (length xs) ++ insertFullRefusal t (length xs / s .dim)
-
 unfoldable pub rowInserted : Head → Lent → List Float → Left
 rowInserted h l x =
     let s = settingsOf h in
     let t = lentTree h (l .floats) (l .links) in
-    settle (changeRefusals h l ++ rowRefusals s t x) h l (changed h l (inserted s x t))
+    settle (rowRefusals h l x) h l (changed h l (inserted s x t))
 
 unfoldable pub batchInserted : Head → Lent → List Float → Left
 batchInserted h l xs =
     let s = settingsOf h in
     let t = lentTree h (l .floats) (l .links) in
-    settle (changeRefusals h l ++ batchRefusals s t xs) h l (changed h l (insertedAll s (rowsOf (length xs / s .dim) (s .dim) xs) t))
+    settle (batchRefusals h l xs) h l (changed h l (insertedAll s (rowsOf (length xs / s .dim) (s .dim) xs) t))
 
 -- ---- refit
 
 unfoldable pub batchRefitted : Head → Lent → List Float → Left
 batchRefitted h l xs =
     let s = settingsOf h in
-    let n = length xs / s .dim in
     let t = lentTree h (l .floats) (l .links) in
-    settle (changeRefusals h l ++ (batchShapeRefusal (s .dim) (length xs) ++ refitFullRefusal t n)) h l
-    (changed h l (refitted s (rowsOf n (s .dim) xs) t))
+    settle (refitRefusals h l xs) h l (changed h l (refitted s (rowsOf (length xs / s .dim) (s .dim) xs) t))
 
 -- ---- calls that change nothing but an output
 
@@ -204,17 +255,13 @@ module _ {A : Type 0} where
 unfoldable pub routed : Head → List Float → List ℕ → List Float → List ℕ → Written ℕ
 routed h fs ls xs out =
     let s = settingsOf h in
-    let n = length xs / s .dim in
-    let t = lentTree h fs ls in
-    write (treeRefusals h fs ls ++ (batchShapeRefusal (s .dim) (length xs) ++ (emptyRefusal t n ++ outputRefusal n (length out))))
-    (map (route s t) (rowsOf n (s .dim) xs)) out
+    write (routeRefusals h fs ls xs out) (map (route s (lentTree h fs ls)) (rowsOf (length xs / s .dim) (s .dim) xs)) out
 
 -- dim numbers an entry to the front of the output
 unfoldable pub spreadWritten : Head → List Float → List ℕ → List Float → Written Float
 spreadWritten h fs ls out =
     let s = settingsOf h in
-    let t = lentTree h fs ls in
-    write (treeRefusals h fs ls ++ outputRefusal (length (t .entries) * s .dim) (length out)) (joined (map (spreadOf (s .feature) (s .dim)) (t .entries))) out
+    write (spreadRefusals h fs ls out) (joined (map (spreadOf (s .feature) (s .dim)) (lentTree h fs ls .entries))) out
 
 -- ---- calls that only answer
 

@@ -4,7 +4,7 @@ use mathlib.Core.Bool.{Bool, true, false, cond, _||_, _&&_, not}
 use mathlib.Core.List.{List, [], _∷_, _++_, map}
 use mathlib.Core.Option.{Option, none, some}
 use lib.ListN.{length}
-use lib.Dec.{leb, ltb, eqb}
+use lib.Dec.{T, leb, ltb, eqb}
 use lib.Ieee.{eq, toUnsigned}
 use Rattle.binary64.specs.Whole.{whole, most}
 use Rattle.binary64.specs.Counts.{isCount}
@@ -119,5 +119,30 @@ lowest i [] = Passes
 lowest i (true ∷ bs) = lowest (suc i) bs
 lowest i (false ∷ bs) = Fails i
 
+-- the conditions, a line a number
+unfoldable pub conditions : Settings → Tree → List Bool
+conditions s t =
+    sized s t
+    ∷ rooted t
+    ∷ every (listFits s t) (t .nodes)
+    ∷ linked t
+    ∷ filled t
+    ∷ level t
+    ∷ weighed t
+    ∷ mergedBelow s (t .running)
+    ∷ []
+
 unfoldable pub checked : Settings → Tree → Verdict
-checked s t = lowest 1 (sized s t ∷ rooted t ∷ every (listFits s t) (t .nodes) ∷ linked t ∷ filled t ∷ level t ∷ weighed t ∷ mergedBelow s (t .running) ∷ [])
+checked s t = lowest 1 (conditions s t)
+
+-- the same by name: what a tree that passes has
+
+pub record Passing (s : Settings) (t : Tree) : Type 0 where
+  pub counts : T (sized s t)
+  pub root : T (rooted t)
+  pub lists : T (every (listFits s t) (t .nodes))
+  pub links : T (linked t)
+  pub full : T (filled t)
+  pub even : T (level t)
+  pub weights : T (weighed t)
+  pub merged : T (mergedBelow s (t .running))

@@ -10,16 +10,15 @@ use Rattle.feature.specs.Shape.{Shaped, blank-shaped}
 use Rattle.head.specs.declared.Head.{Head}
 use Rattle.head.specs.declared.Settings.{Settings}
 use Rattle.head.specs.declared.refusal.Refusal.{Refusal}
-use Rattle.head.specs.declared.refusal.Refusal.the-variants as R
 use Rattle.head.specs.declared.refusal.Answer.the-variants.{Accepted}
 use Rattle.head.specs.Heads.{settingsOf, newCounters, withCounters}
-use Rattle.head.specs.Limits.{Sized, allowed, allowed-sized}
+use Rattle.head.specs.Limits.{Sized}
 use Rattle.head.specs.Sizes.{blockWidth, nodes-some}
 use Rattle.rules.specs.Tree.{Tree, blankNode, nodeAt, entryAt, fresh}
 use Rattle.rules.specs.Slices.{noParent, countersOf}
 use Rattle.rules.specs.Stored.{Fits}
-use Rattle.rules.specs.Calls.{settingsRefusal, madeBy, createRefusals, created}
-use Rattle.rules.specs.RefusalLaws.{none-both, unless-none}
+use Rattle.rules.specs.Calls.{madeBy, createRefusals, created}
+use Rattle.rules.specs.CallLaws.{create-roomy}
 use Rattle.rules.specs.Cleared.{Cleared, stored-cleared}
 
 fresh-fits : (s : Settings) (threshold : Float) → Fits s (fresh threshold)
@@ -63,8 +62,7 @@ module _ (h : Head) (fs : List Float) (ls : List ℕ) (e : created h fs ls .answ
   made = made-done (createRefusals h fs ls) h fs ls e
 
   made-sized : Sized (settingsOf h)
-  unfolding createRefusals settingsRefusal
-  made-sized = allowed-sized h (unless-none (allowed h) R.Settings (none-both (settingsRefusal h) _ (made .0) .0))
+  made-sized = create-roomy h fs ls (made .0) .sized
 
   -- creation's counters are those of the fresh tree
   pub created-counters : created h fs ls .head ≡ withCounters h (countersOf made-tree)

@@ -2,10 +2,11 @@
 use Prim.Native.Nat.{ℕ, zero, suc, _+_, _-_, _≤_, _<_}
 use mathlib.Core.Path.{_≡_, refl, sym, ap, _∙_}
 use mathlib.Core.Bool.{Bool, true, false, cond, _&&_, true≢false}
-use mathlib.Core.List.{List, [], _∷_}
+use mathlib.Core.List.{List, _∷_}
 use mathlib.Core.Option.{none, some}
 use borrow.Author.Tests.{leb-true, eq-eqb}
 use lib.Dec.{leb, eqb}
+use lib.Ieee.Bits.{is-true}
 use native.Mathlib.Omega.{arith}
 use lib.ListN.{length, getD, replicate, getD-replicate}
 use lib.Ieee.{Float, nan}
@@ -20,12 +21,12 @@ use Rattle.head.specs.Limits.{Sized, both}
 use Rattle.head.specs.Sizes.{nodeCap, entryCap, blockWidth, nodes-small}
 use Rattle.rules.specs.Lists.{every}
 use Rattle.rules.specs.Tree.{Tree, blankNode, nodeAt, entryAt, cap}
-use Rattle.rules.specs.Check.{sized, rooted, listFits, linked, filled, level, weighed, mergedBelow, checked}
+use Rattle.rules.specs.Check.{sized, listFits, checked}
 use Rattle.rules.specs.Slices.{eight, summaryIn, noParent, parentIn, parentOut, nodeIn, slotAt, blockAt, treeOf}
 use Rattle.rules.specs.ListLaws.{length-table, table-at}
 use Rattle.rules.specs.Stored.{Fits, slots-in}
-use Rattle.rules.specs.CallLaws.{lowest-passes}
 use Rattle.rules.specs.declared.Verdict.the-variants.{Passes}
+use Rattle.rules.specs.CheckLaws.{passing-of}
 
 -- ---- what passing the check says of sizes
 
@@ -35,24 +36,16 @@ every-at f (x ∷ l) zero d e h = both (f x) (every f l) e .0
 every-at f (x ∷ l) (suc i) d e h = every-at f l i d (both (f x) (every f l) e .1) (omega arith)
 
 module _ (s : Settings) (t : Tree) (ok : checked s t ≡ Passes) where
-  conditions : every (λ b. b) (sized s t ∷ rooted t ∷ every (listFits s t) (t .nodes) ∷ linked t ∷ filled t ∷ level t ∷ weighed t ∷ mergedBelow s (t .running) ∷ []) ≡ true
-  unfolding checked
-  conditions = lowest-passes 1 _ ok
-
   counts-few : (length (t .nodes) ≤ nodeCap s) × (length (t .entries) ≤ s .«max_leaves»)
-  unfolding every sized
+  unfolding sized
   counts-few =
-      let (c, _) = both (sized s t) _ conditions in
-      let (a, e) = both (leb 1 (length (t .nodes)) && leb (length (t .nodes)) (nodeCap s)) (leb (length (t .entries)) (s .«max_leaves»)) c in
+      let (a, e) = both (leb 1 (length (t .nodes)) && leb (length (t .nodes)) (nodeCap s)) (leb (length (t .entries)) (s .«max_leaves»))
+      (is-true _ (passing-of s t ok .counts)) in
       (leb-true _ _ (both (leb 1 (length (t .nodes))) (leb (length (t .nodes)) (nodeCap s)) a .1), leb-true _ _ e)
 
   pub list-few : (k : ℕ) → k < length (t .nodes) → length (nodeAt t k .list) ≤ cap s (nodeAt t k .leaf)
-  unfolding every nodeAt listFits
-  list-few k h =
-      let (_, e) = both (sized s t) _ conditions in
-      let (_, e₁) = both (rooted t) _ e in
-      let (e₂, _) = both (every (listFits s t) (t .nodes)) _ e₁ in
-      leb-true _ _ (both _ _ (every-at (listFits s t) (t .nodes) k blankNode e₂ h) .0)
+  unfolding nodeAt listFits
+  list-few k h = leb-true _ _ (both _ _ (every-at (listFits s t) (t .nodes) k blankNode (is-true _ (passing-of s t ok .lists)) h) .0)
 
 pub cap-in : (s : Settings) (b : Bool) → cap s b < blockWidth s - 2
 unfolding cap blockWidth

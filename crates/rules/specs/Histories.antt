@@ -1,11 +1,12 @@
 -- A history: calls on a tree, and what each answers as numbers, so that answers of the Rust stand beside what the rules compute.
-use Prim.Native.Nat.{ℕ, suc, _/_}
+use Prim.Native.Nat.{ℕ, suc, _*_, _/_}
 use mathlib.Core.Path.{_≡_}
 use mathlib.Core.Bool.{cond}
 use mathlib.Core.List.{List, [], _∷_, _++_, map}
 use mathlib.Core.Option.{Option, none, some}
-use lib.ListN.{length, take}
+use lib.ListN.{length, take, replicate}
 use lib.Ieee.{Float, binary64, ofBits, toBits}
+use Rattle.binary64.specs.Operators.{f0}
 use Rattle.feature.specs.Summaries.{slotsOf}
 use Rattle.feature.specs.declared.Summary.{Summary}
 use Rattle.head.specs.Refusals.{numberOf, valuesOf}
@@ -17,7 +18,7 @@ use Rattle.rules.specs.Rebuild.{inserted, insertedAll}
 use Rattle.rules.specs.Refit.{route, refitted, spreadOf}
 use Rattle.rules.specs.Check.{checked}
 use Rattle.rules.specs.Slices.{eight}
-use Rattle.rules.specs.Calls.{treeRefusal, batchShapeRefusal, emptyRefusal, refitFullRefusal, rowRefusals, batchRefusals}
+use Rattle.rules.specs.Calls.{treeRefusal, rowAsked, batchAsked, refitAsked, routeAsked, spreadAsked}
 
 -- ---- numbers for values
 
@@ -72,17 +73,19 @@ unfoldable pub look : List Refusal → Tree → List (List ℕ) → Step
 look [] t seen = record { answer = seen; tree = t }
 look (r ∷ rs) t seen = record { answer = refusalSeen (r ∷ rs) ∷ []; tree = t }
 
+-- one call; an output is as long as what is written to it
 unfoldable pub step : Settings → Tree → Call → Step
-step s t (Insert x) = change (treeRefusal (checked s t) ++ rowRefusals s t (floats x)) t (inserted s (floats x) t)
+step s t (Insert x) = change (treeRefusal (checked s t) ++ rowAsked s t (floats x)) t (inserted s (floats x) t)
 step s t (Batch xs) =
-    change (treeRefusal (checked s t) ++ batchRefusals s t (floats xs)) t (insertedAll s (rowsOf (length xs / s .dim) (s .dim) (floats xs)) t)
+    change (treeRefusal (checked s t) ++ batchAsked s t (floats xs)) t (insertedAll s (rowsOf (length xs / s .dim) (s .dim) (floats xs)) t)
 step s t (Refit xs) =
-    let n = length xs / s .dim in
-    change (treeRefusal (checked s t) ++ (batchShapeRefusal (s .dim) (length xs) ++ refitFullRefusal t n)) t (refitted s (rowsOf n (s .dim) (floats xs)) t)
+    change (treeRefusal (checked s t) ++ refitAsked s t (floats xs)) t (refitted s (rowsOf (length xs / s .dim) (s .dim) (floats xs)) t)
 step s t (Route xs) =
     let n = length xs / s .dim in
-    look (treeRefusal (checked s t) ++ (batchShapeRefusal (s .dim) (length xs) ++ emptyRefusal t n)) t (map (route s t) (rowsOf n (s .dim) (floats xs)) ∷ [])
-step s t Spread = look (treeRefusal (checked s t)) t (map bits (joined (map (spreadOf (s .feature) (s .dim)) (t .entries))) ∷ [])
+    look (treeRefusal (checked s t) ++ routeAsked s t (floats xs) (replicate n 0)) t (map (route s t) (rowsOf n (s .dim) (floats xs)) ∷ [])
+step s t Spread =
+    look (treeRefusal (checked s t) ++ spreadAsked s t (replicate (length (t .entries) * s .dim) f0)) t
+    (map bits (joined (map (spreadOf (s .feature) (s .dim)) (t .entries))) ∷ [])
 step s t Validate = record { answer = refusalSeen (treeRefusal (checked s t)) ∷ []; tree = t }
 step s t State = record { answer = treeSeen s t; tree = t }
 

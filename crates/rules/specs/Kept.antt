@@ -30,8 +30,8 @@ use Rattle.rules.specs.Refit.{refitted}
 use Rattle.rules.specs.Slices.{stretch, filledTo, eight, summaryIn, summaryOut, noParent, parentIn, parentOut, leafIn, lengthIn, kindOut, nodeIn, blockOut, slotAt, blockAt}
 use Rattle.rules.specs.ListLaws.{below?}
 use Rattle.rules.specs.Stored.{Fits, means-long, slots-in, stored}
-use Rattle.rules.specs.Calls.{Lent, Left, lentTree, changeRefusals, changed, settle, batchInserted, batchRefitted}
-use Rattle.rules.specs.RefusalLaws.{none-both}
+use Rattle.rules.specs.Calls.{Lent, Left, lentTree, changeRefusals, batchRefusals, refitRefusals, changed, settle, batchInserted, batchRefitted}
+use Rattle.rules.specs.RefusalLaws.{accepted-none, none-both}
 use Rattle.rules.specs.CallLaws.{accepted-done, Ready, change-ready, head-again}
 use Rattle.rules.specs.Fronted.{past-at, stretch-at}
 use Rattle.rules.specs.Cleared.{node-word, entry-word, block-word, Clears, changed-clears}
@@ -225,18 +225,18 @@ module _ (h : Head) (l : Lent) where
       → AltersNothing (settle (changeRefusals h l ++ more) h l (changed h l u))
   idle more u same e =
       let (passed, is) = accepted-done (changeRefusals h l ++ more) h l (changed h l u) e in
-      let r = change-ready h l (none-both (changeRefusals h l) more passed .0) in
+      let r = change-ready h l (none-both (changeRefusals h l) more (accepted-none _ passed) .0) in
       rw (is, same) (again, lent-kept h l r, changed-clears h l _ (allowed-sized h (r .allows)) (lent-fits h l r))
     where
       again : changed h l (lentTree h (l .floats) (l .links)) .head ≡ h
       again = unfold changed in head-again h (l .floats) (l .links)
 
   pub zero-rows-alter-nothing : batchInserted h l [] .answer ≡ Accepted → AltersNothing (batchInserted h l [])
-  unfolding batchInserted
+  unfolding batchInserted batchRefusals
   zero-rows-alter-nothing e = idle _ _ (no-rows (settingsOf h) _) e
 
   -- a refit with no rows, or with no entries, however many rows
   pub idle-refit-alters-nothing : (xs : List Float) → (length xs / settingsOf h .dim ≡ 0) ⊎ (length (lentTree h (l .floats) (l .links) .entries) ≡ 0)
       → batchRefitted h l xs .answer ≡ Accepted → AltersNothing (batchRefitted h l xs)
-  unfolding batchRefitted
+  unfolding batchRefitted refitRefusals
   idle-refit-alters-nothing xs w e = idle _ _ (refit-idle (settingsOf h) (length xs / settingsOf h .dim) xs _ w) e

@@ -10,6 +10,7 @@ pub mod Refold
 pub mod Rebuild
 pub mod Refit
 pub mod Check
+pub mod CheckLaws
 pub mod Slices
 pub mod ListLaws
 pub mod Stored

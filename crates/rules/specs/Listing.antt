@@ -18,7 +18,7 @@ use Rattle.head.specs.declared.refusal.Refusal.{Refusal}
 use Rattle.rules.specs.Tree.{Tree, fresh}
 use Rattle.rules.specs.Rebuild.{inserted}
 use Rattle.rules.specs.Check.{rowsIn, totalOf}
-use Rattle.rules.specs.Calls.{rowRefusals}
+use Rattle.rules.specs.Calls.{rowAsked}
 
 -- ---- bytes of a text
 
@@ -119,7 +119,7 @@ rowIn s t x [] = some (inserted s x t)
 rowIn s t x (r ∷ rs) = none
 
 unfoldable pub lineIn : Settings → Tree → List ℕ → Option Tree
-lineIn s t l = andThen (fieldsIn l) λ fs. andThen (hexFloats fs) λ x. rowIn s t x (rowRefusals s t x)
+lineIn s t l = andThen (fieldsIn l) λ fs. andThen (hexFloats fs) λ x. rowIn s t x (rowAsked s t x)
 
 -- ---- writing
 

@@ -17,20 +17,20 @@ use Rattle.feature.specs.declared.Summary.{Summary}
 use Rattle.feature.specs.declared.Feature.{Feature}
 use Rattle.feature.specs.declared.Feature.the-variants.{Spherical, Diagonal}
 use Rattle.head.specs.Heads.{settingsOf}
-use Rattle.head.specs.Limits.{Sized, allowed, allowed-sized}
+use Rattle.head.specs.Limits.{Sized}
 use Rattle.head.specs.Sizes.{nodeCap, slotWidth}
 use Rattle.head.specs.declared.Head.{Head}
 use Rattle.head.specs.declared.Settings.{Settings}
 use Rattle.head.specs.declared.refusal.Refusal.{Refusal}
-use Rattle.head.specs.declared.refusal.Refusal.the-variants as R
 use Rattle.head.specs.declared.refusal.Answer.the-variants.{Accepted, Refused}
 use Rattle.rules.specs.Lists.{joined, rowsOf}
 use Rattle.rules.specs.Tree.{Tree, entryAt}
 use Rattle.rules.specs.Refit.{route, spreadOf}
 use Rattle.rules.specs.Slices.{eight, summaryIn, slotAt, treeOf}
 use Rattle.rules.specs.ListLaws.{length-table, EachLong, length-joined, piece-at, rows-count, rows-at, map-at}
-use Rattle.rules.specs.Calls.{settingsRefusal, fronted, lentTree, treeRefusals, write, routed, spreadWritten, listedBy, listed}
-use Rattle.rules.specs.RefusalLaws.{none-both, unless-none}
+use Rattle.rules.specs.Calls.{fronted, lentTree, treeRefusals, spreadRefusals, write, routed, spreadWritten, listedBy, listed}
+use Rattle.rules.specs.RefusalLaws.{none-both}
+use Rattle.rules.specs.CallLaws.{tree-readable}
 use Rattle.rules.specs.Stored.{slots-in}
 use Rattle.rules.specs.Fronted.{front-new, behind-old, stretch-at}
 use Rattle.rules.specs.Held.{in-shaped, entry-held, in-entries}
@@ -49,11 +49,6 @@ module _ {A : Type 0} where
   unfolding write
   write-accepted [] new old e = (refl, refl)
   write-accepted (q ∷ rs) new old e = let z : _≡_ {A = ℕ} 0 1 = cc in absurd (omega arith)
-
--- an allowed head
-tree-sized : (h : Head) (fs : List Float) (ls : List ℕ) → treeRefusals h fs ls ≡ [] → Sized (settingsOf h)
-unfolding treeRefusals settingsRefusal
-tree-sized h fs ls e = allowed-sized h (unless-none (allowed h) R.Settings (none-both (settingsRefusal h) _ e .0))
 
 -- the numbers of one entry
 spherical-at : (n : ℕ) (c : Summary) (j : ℕ) → j < n → at (spreadOf Spherical n c) j ≡ at (c .deviation) 0 ⊘ c .weight ⊘ whole n
@@ -123,11 +118,11 @@ module _ (h : Head) (fs : List Float) (ls : List ℕ) where
       numbers = map (spreadOf (s .feature) (s .dim)) (t .entries)
 
       spread-done : (treeRefusals h fs ls ≡ []) × (spreadWritten h fs ls out .output ≡ fronted (joined numbers) out)
-      unfolding spreadWritten
+      unfolding spreadWritten spreadRefusals
       spread-done = let (none, is) = write-accepted _ _ out e in (none-both (treeRefusals h fs ls) _ none .0, is)
 
       sizes : Sized s
-      sizes = tree-sized h fs ls (spread-done .0)
+      sizes = tree-readable h fs ls (spread-done .0) .roomy .sized
 
       entry-shaped : (i : ℕ) → i < length (t .entries) → Shaped (s .feature) (s .dim) (entryAt t i)
       unfolding lentTree
@@ -208,7 +203,7 @@ module _ (h : Head) (fs : List Float) (ls : List ℕ) where
     entry-is i a = entry-held s (h .counters) fs ls i (in-entries s (h .counters) fs ls a)
 
     slot-few : (s .dim ≤ 8) × (slotsOf (s .feature) (s .dim) ≤ s .dim)
-    slot-few = let z = tree-sized h fs ls none-refused in (z .dim-few, slots-in s z)
+    slot-few = let z = tree-readable h fs ls none-refused .roomy .sized in (z .dim-few, slots-in s z)
 
     -- floats[first + i·width] is entry i's weight, and its means and deviations follow
     module _ (i : ℕ) (a : i < length (t .entries)) where

@@ -2,7 +2,7 @@
 use Prim.Native.Nat.{ℕ, _+_, _*_, _/_, _%_}
 use mathlib.Core.Path.{_≡_, refl, ap, _∙_}
 use mathlib.Core.Bool.{Bool, true, false, cond, _||_}
-use mathlib.Core.List.{List, [], _∷_, _++_, map}
+use mathlib.Core.List.{List, [], _∷_, _++_, map, append-assoc}
 use lib.ListN.{length}
 use lib.Dec.{leb, eqb}
 use lib.Ieee.{Float}
@@ -19,7 +19,7 @@ use Rattle.head.specs.declared.refusal.Answer.{Answer}
 use Rattle.head.specs.declared.refusal.Answer.the-variants.{Accepted, Refused}
 use Rattle.rules.specs.Tree.{Tree}
 use Rattle.rules.specs.Check.{checked, totalOf}
-use Rattle.rules.specs.Calls.{unless, answerOf, settingsRefusal, roomRefusal, treeRefusal, rowShapeRefusal, batchShapeRefusal, emptyRefusal, insertFullRefusal, refitFullRefusal, outputRefusal, Lent, lentTree, treeRefusals, changeRefusals, changed, settle, madeBy, createRefusals, created, rowRefusals, batchRefusals, rowInserted, batchInserted, batchRefitted, write, routed, spreadWritten, validated, listedBy, listed}
+use Rattle.rules.specs.Calls.{unless, answerOf, settingsRefusal, roomRefusal, treeRefusal, rowShapeRefusal, batchShapeRefusal, emptyRefusal, insertFullRefusal, refitFullRefusal, outputRefusal, Lent, lentTree, treeRefusals, changeRefusals, changed, settle, madeBy, createRefusals, created, rowAsked, rowsAsked, batchAsked, refitAsked, routeAsked, spreadAsked, rowRefusals, batchRefusals, refitRefusals, routeRefusals, spreadRefusals, rowInserted, batchInserted, batchRefitted, write, routed, spreadWritten, validated, listedBy, listed}
 use Rattle.rules.specs.RefusalLaws.{first-given}
 use Rattle.rules.specs.CallLaws.{settle-answer}
 use Rattle.rules.specs.declared.Verdict.{Verdict}
@@ -106,10 +106,11 @@ module _ (h : Head) (fs : List Float) (ls : List ℕ) where
   -- 1, 2 and 3
   pub tree-order : validated h fs ls
       ≡ test (allowed h) R.Settings (test (leb (floatsNeeded s) (length fs)) R.Room (test (leb (linksNeeded s) (length ls)) R.Room (treeAnswer (checked s t))))
-  unfolding validated treeRefusals settingsRefusal roomRefusal
+  unfolding validated treeRefusals createRefusals settingsRefusal roomRefusal
   tree-order =
-      then (allowed h) R.Settings _
-      (then (leb (floatsNeeded s) (length fs)) R.Room _ (then (leb (linksNeeded s) (length ls)) R.Room _ (tree-told (checked s t))))
+      simp append-assoc
+      (then (allowed h) R.Settings _
+      (then (leb (floatsNeeded s) (length fs)) R.Room _ (then (leb (linksNeeded s) (length ls)) R.Room _ (tree-told (checked s t)))))
 
   pub listed-order : listed h fs ls .answer ≡ validated h fs ls
   unfolding listed validated
@@ -124,7 +125,7 @@ module _ (h : Head) (fs : List Float) (ls : List ℕ) where
       ≡ before (validated h fs ls)
       (test (eqb (length xs % s .dim) 0) (R.Shape (s .dim) (length xs % s .dim))
       (test (eqb (length xs / s .dim) 0 || leb 1 (length (t .entries))) R.Empty (test (leb (length xs / s .dim) (length out)) R.Output Accepted)))
-  unfolding routed validated batchShapeRefusal emptyRefusal outputRefusal
+  unfolding routed routeRefusals routeAsked validated batchShapeRefusal emptyRefusal outputRefusal
   route-order xs out =
       write-answer _ _ out
       ∙ answer-append (treeRefusals h fs ls) _
@@ -135,7 +136,7 @@ module _ (h : Head) (fs : List Float) (ls : List ℕ) where
   -- 1, 2 and 3, then 7
   pub spread-order : (out : List Float) → spreadWritten h fs ls out .answer
       ≡ before (validated h fs ls) (test (leb (length (t .entries) * s .dim) (length out)) R.Output Accepted)
-  unfolding spreadWritten validated outputRefusal
+  unfolding spreadWritten spreadRefusals spreadAsked validated outputRefusal
   spread-order out =
       write-answer _ _ out
       ∙ answer-append (treeRefusals h fs ls) _
@@ -157,19 +158,20 @@ module _ (h : Head) (l : Lent) where
       (test (leb (linksNeeded given) (length (l .links))) R.Room
       (test (leb (scratchFloatsNeeded given) (length (l .scratchFloats))) R.Room
       (test (leb (scratchLinksNeeded given) (length (l .scratchLinks))) R.Room (treeAnswer (checked given tree))))))
-  unfolding changeRefusals settingsRefusal roomRefusal
+  unfolding changeRefusals createRefusals settingsRefusal roomRefusal
   change-order =
-      then (allowed h) R.Settings _
+      simp append-assoc
+      (then (allowed h) R.Settings _
       (then (leb (floatsNeeded given) (length (l .floats))) R.Room _
       (then (leb (linksNeeded given) (length (l .links))) R.Room _
       (then (leb (scratchFloatsNeeded given) (length (l .scratchFloats))) R.Room _
-      (then (leb (scratchLinksNeeded given) (length (l .scratchLinks))) R.Room _ (tree-told (checked given tree))))))
+      (then (leb (scratchLinksNeeded given) (length (l .scratchLinks))) R.Room _ (tree-told (checked given tree)))))))
 
   -- then 4 and 6
   pub row-order : (x : List Float) → rowInserted h l x .answer
       ≡ before (answerOf (changeRefusals h l))
       (test (eqb (length x) (given .dim)) (R.Shape (given .dim) (length x)) (test (leb (totalOf (tree .entries) + 1) most) R.Full Accepted))
-  unfolding rowInserted rowRefusals rowShapeRefusal insertFullRefusal
+  unfolding rowInserted rowRefusals rowAsked rowShapeRefusal insertFullRefusal
   row-order x =
       change-answer h l _ _
       ∙ answer-append (changeRefusals h l) _
@@ -180,7 +182,7 @@ module _ (h : Head) (l : Lent) where
       ≡ before (answerOf (changeRefusals h l))
       (test (eqb (length xs % given .dim) 0) (R.Shape (given .dim) (length xs % given .dim))
       (test (leb (totalOf (tree .entries) + length xs / given .dim) most) R.Full Accepted))
-  unfolding batchInserted batchRefusals batchShapeRefusal insertFullRefusal
+  unfolding batchInserted batchRefusals batchAsked rowsAsked batchShapeRefusal insertFullRefusal
   batch-order xs =
       change-answer h l _ _
       ∙ answer-append (changeRefusals h l) _
@@ -192,7 +194,7 @@ module _ (h : Head) (l : Lent) where
       ≡ before (answerOf (changeRefusals h l))
       (test (eqb (length xs % given .dim) 0) (R.Shape (given .dim) (length xs % given .dim))
       (test (eqb (length (tree .entries)) 0 || leb (length xs / given .dim) most) R.Full Accepted))
-  unfolding batchRefitted batchShapeRefusal refitFullRefusal
+  unfolding batchRefitted refitRefusals refitAsked rowsAsked batchShapeRefusal refitFullRefusal
   refit-order xs =
       change-answer h l _ _
       ∙ answer-append (changeRefusals h l) _

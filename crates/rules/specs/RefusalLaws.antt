@@ -1,5 +1,5 @@
 -- Refusals in their order: the first that applies is given, and none applies exactly where every test passes.
-use Prim.Native.Nat.{ℕ, _+_, _≤_, _<_}
+use Prim.Native.Nat.{ℕ, _+_, _%_, _≤_, _<_}
 use mathlib.Core.Path.{_≡_, refl}
 use mathlib.Core.Bool.{Bool, true, false, cond, _||_}
 use mathlib.Core.List.{List, [], _∷_, _++_}
@@ -13,7 +13,7 @@ use Rattle.head.specs.declared.refusal.Refusal.the-variants as R
 use Rattle.head.specs.declared.refusal.Answer.the-variants.{Accepted, Refused}
 use Rattle.rules.specs.Tree.{Tree}
 use Rattle.rules.specs.Check.{totalOf}
-use Rattle.rules.specs.Calls.{unless, answerOf, roomRefusal, treeRefusal, rowShapeRefusal, emptyRefusal, insertFullRefusal, refitFullRefusal, outputRefusal}
+use Rattle.rules.specs.Calls.{unless, answerOf, roomRefusal, treeRefusal, rowShapeRefusal, batchShapeRefusal, emptyRefusal, insertFullRefusal, refitFullRefusal, outputRefusal}
 use Rattle.rules.specs.declared.Verdict.{Verdict}
 use Rattle.rules.specs.declared.Verdict.the-variants.{Passes, Fails}
 
@@ -88,6 +88,10 @@ tree-none (Fails n) e = let z : _≡_ {A = ℕ} 0 1 = cc in absurd (omega arith)
 pub row-shape-none : (dim n : ℕ) → rowShapeRefusal dim n ≡ [] → n ≡ dim
 unfolding rowShapeRefusal
 row-shape-none dim n e = eqb-true n dim (unless-none (eqb n dim) (R.Shape dim n) e)
+
+pub batch-shape-none : (dim n : ℕ) → batchShapeRefusal dim n ≡ [] → n % dim ≡ 0
+unfolding batchShapeRefusal
+batch-shape-none dim n e = eqb-true (n % dim) 0 (unless-none (eqb (n % dim) 0) (R.Shape dim (n % dim)) e)
 
 module _ (t : Tree) (rows : ℕ) where
   -- 5

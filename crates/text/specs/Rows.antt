@@ -13,7 +13,7 @@ use lib.Ieee.{Float}
 use Rattle.head.specs.declared.Settings.{Settings}
 use Rattle.rules.specs.Tree.{Tree}
 use Rattle.head.specs.declared.refusal.Refusal.the-variants as R
-use Rattle.rules.specs.Calls.{unless, rowShapeRefusal, insertFullRefusal, rowRefusals}
+use Rattle.rules.specs.Calls.{unless, rowShapeRefusal, insertFullRefusal, rowAsked}
 use Rattle.rules.specs.Listing.{andThen, fieldsOf, fieldsIn, hexFloat, hexFloats, rowIn, lineIn}
 use Rattle.text.specs.declared.RowLine.{RowLine}
 use Rattle.text.specs.declared.RowLine.the-variants.{Row, Malformed}
@@ -40,9 +40,9 @@ unfolding andThen
 then-then none f g = refl
 then-then (some a) f g = refl
 
-pub line-floats : (s : Settings) (t : Tree) (l : List ℕ) → lineIn s t l ≡ andThen (floatsIn l) λ x. rowIn s t x (rowRefusals s t x)
+pub line-floats : (s : Settings) (t : Tree) (l : List ℕ) → lineIn s t l ≡ andThen (floatsIn l) λ x. rowIn s t x (rowAsked s t x)
 unfolding lineIn floatsIn
-line-floats s t l = sym (then-then (fieldsIn l) hexFloats λ x. rowIn s t x (rowRefusals s t x))
+line-floats s t l = sym (then-then (fieldsIn l) hexFloats λ x. rowIn s t x (rowAsked s t x))
 
 -- ---- float by float
 
@@ -130,15 +130,15 @@ module _ (l : List ℕ) where
 
 module _ (s : Settings) (t : Tree) (l : List ℕ) (before after : List Float) where
   pub row-listed : RowRead (s .dim) (floatsIn l) before after Row
-      → lineIn s t l ≡ rowIn s t (take (s .dim) after) (rowRefusals s t (take (s .dim) after))
+      → lineIn s t l ≡ rowIn s t (take (s .dim) after) (rowAsked s t (take (s .dim) after))
   unfolding RowRead
   row-listed r = line-floats s t l ∙ goes _ _ (take (s .dim) after) (r .0)
 
-  shape-refused : (x : List Float) → (length x ≡ s .dim → ⊥) → rowIn s t x (rowRefusals s t x) ≡ none
-  unfolding rowRefusals rowShapeRefusal unless rowIn
+  shape-refused : (x : List Float) → (length x ≡ s .dim → ⊥) → rowIn s t x (rowAsked s t x) ≡ none
+  unfolding rowAsked rowShapeRefusal unless rowIn
   shape-refused x n = ap (λ b. rowIn s t x (unless b (R.Shape (s .dim) (length x)) ++ insertFullRefusal t 1)) (ne-eqb (length x) (s .dim) n)
 
-  refused-case : (o : Option (List Float)) → RowRead (s .dim) o before after Malformed → (andThen o λ x. rowIn s t x (rowRefusals s t x)) ≡ none
+  refused-case : (o : Option (List Float)) → RowRead (s .dim) o before after Malformed → (andThen o λ x. rowIn s t x (rowAsked s t x)) ≡ none
   unfolding RowRead andThen
   refused-case none r = refl
   refused-case (some x) r = shape-refused x (r x refl)

@@ -12,7 +12,7 @@ use Rattle.rules.specs.declared.Verdict.{Verdict}
 use Rattle.rules.specs.declared.Verdict.the-variants.{Fails}
 use Rattle.rules.specs.Lists.{every}
 use Rattle.rules.specs.Tree.{Tree}
-use Rattle.rules.specs.Check.{sized, rooted, listFits, linked, onceEach, leafLists, filled, level, weighed, mergedBelow, lowest, checked}
+use Rattle.rules.specs.Check.{sized, rooted, listFits, linked, onceEach, leafLists, filled, level, weighed, mergedBelow, lowest, conditions, checked}
 use Rattle.laws.specs.Check.Taken.{Binary64}
 use Rattle.validate.specs.Climbing.{meeting}
 use Rattle.validate.specs.Meeting.{meeting-is}
@@ -26,12 +26,12 @@ use Rattle.weights.specs.Weighed.{weighed-is}
 unfoldable pub hung : Tree → Bool
 hung t = meeting t && onceEach (length (t .entries)) (leafLists (t .nodes))
 
--- the eight conditions in their order
-unfoldable pub conditions : Settings → Tree → List Bool
-conditions s t = sized s t ∷ rooted t ∷ every (listFits s t) (t .nodes) ∷ hung t ∷ filled t ∷ forking t ∷ summed t ∷ mergedBelow s (t .running) ∷ []
+-- the conditions in their order, as code tests them
+unfoldable pub tested : Settings → Tree → List Bool
+tested s t = sized s t ∷ rooted t ∷ every (listFits s t) (t .nodes) ∷ hung t ∷ filled t ∷ forking t ∷ summed t ∷ mergedBelow s (t .running) ∷ []
 
 unfoldable pub examined : Settings → Tree → Verdict
-examined s t = lowest 1 (conditions s t)
+examined s t = lowest 1 (tested s t)
 
 -- a condition may be replaced by one that is the same where those before it hold
 onward : (i : ℕ) (b c : Bool) (bs cs : List Bool) → b ≡ c → (T b → lowest (suc i) bs ≡ lowest (suc i) cs) → lowest i (b ∷ bs) ≡ lowest i (c ∷ cs)
@@ -46,7 +46,7 @@ unfolding hung
 linked-hung s t h2 h3 = linked-is s t h2 h3 ∙ ap (λ b. b && onceEach (length (t .entries)) (leafLists (t .nodes))) (meeting-is t)
 
 pub checked-is : (s : Settings) (t : Tree) → Binary64 t → checked s t ≡ examined s t
-unfolding checked examined conditions
+unfolding checked conditions examined tested
 checked-is s t lent =
     onward 1 (sized s t) (sized s t) _ _ refl λ h1.
     onward 2 (rooted t) (rooted t) _ _ refl λ h2.

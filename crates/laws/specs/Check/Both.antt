@@ -12,14 +12,15 @@ use Rattle.feature.specs.declared.Summary.{Summary}
 use Rattle.head.specs.declared.Settings.{Settings}
 use Rattle.rules.specs.declared.Verdict.the-variants.{Passes}
 use Rattle.rules.specs.Lists.{every, joined, upFrom}
-use Rattle.rules.specs.Check.{sized, rooted, listFits, linked, filled, level, weighed, mergedBelow, onceEach, levels, ownList, leafLists, checked, totalOf}
+use Rattle.rules.specs.Check.{linked, onceEach, levels, ownList, leafLists, checked, totalOf}
 use Rattle.rules.specs.Tree.{Tree}
-use Rattle.laws.specs.Check.Taken.{lowest-none, Binary64, checked-whole}
+use Rattle.laws.specs.Check.Taken.{Binary64, checked-whole}
 use Rattle.counting.specs.Count.{same?}
 use Rattle.laws.specs.Inserting.First.{Holding}
 use Rattle.laws.specs.Check.Passing.{whole-passes}
 use Rattle.laws.specs.Check.Empty.{bare-passes, checked-bare}
 use Rattle.laws.specs.Running.{Below}
+use Rattle.rules.specs.CheckLaws.{passing-of}
 
 -- the invariant of a tree between calls: it holds so many rows, in at most max_leaves entries, and its merged total is below that
 pub record AtRest (s : Settings) (t : Tree) (rows : ℕ) : Type 0 where
@@ -53,8 +54,7 @@ resting-passes s t rows r = go (r .holds)
 
 -- each entry is in one leaf list, once
 pub passing-linked : (s : Settings) (t : Tree) → checked s t ≡ Passes → T (onceEach (length (t .entries)) (leafLists (t .nodes)))
-unfolding checked linked
+unfolding linked
 passing-linked s t e =
-    let b = lowest-none 1 (sized s t ∷ rooted t ∷ every (listFits s t) (t .nodes) ∷ linked t ∷ filled t ∷ level t ∷ weighed t ∷ mergedBelow s (t .running) ∷ []) e in
     and-r (onceEach (length (t .nodes)) (joined (levels t)) && every (ownList t) (upFrom (length (t .nodes)) 0))
-    (onceEach (length (t .entries)) (leafLists (t .nodes))) (b .1 .1 .1 .0)
+    (onceEach (length (t .entries)) (leafLists (t .nodes))) (passing-of s t e .links)

@@ -19,15 +19,16 @@ use Rattle.rules.specs.declared.Verdict.the-variants.{Passes}
 use Rattle.rules.specs.Lists.{upFrom, every, occurs, joined}
 use Rattle.rules.specs.Tree.{Node, Tree, nodeAt, cap}
 use Rattle.rules.specs.Check.{onceEach, orphan, sized, rooted, listFits, nextLevel, levelsFrom, levels, ownList, leafLists, linked, filled, loneRoot, level}
-use Rattle.rules.specs.Check.{sameKind, growing, totalOf, weighs, weighed, lowest, checked, mergedBelow, known}
+use Rattle.rules.specs.Check.{sameKind, growing, totalOf, weighs, weighed, lowest, conditions, checked, mergedBelow, known}
 use Rattle.rules.specs.Reinsert.{collected}
 use Rattle.laws.specs.Invariant.Height.{leaves-few, levels-some}
 use Rattle.laws.specs.Inserting.First.{emptyTree, Zero, Bare}
 use Rattle.laws.specs.Check.Accept.{ranks, accepted-links}
-use Rattle.laws.specs.Check.Taken.{Binary64, lowest-none}
+use Rattle.laws.specs.Check.Taken.{Binary64}
 use lib.Ieee.Bits.{is-true}
 use Rattle.head.specs.declared.Running.{Running}
 use Rattle.laws.specs.Running.{Below}
+use Rattle.rules.specs.CheckLaws.{passing-of}
 
 -- ---- no entries: a lone root
 
@@ -107,7 +108,7 @@ lone-node s m r h2 h3 h4 h5 = go (m .list) refl (m .leaf) refl
 
 -- a lone root of weight zero passes
 pub bare-passes : (s : Settings) (z : Summary) (r : Running) → Zero (z .weight) → 1 ≤ s .«max_leaves» → Below s r → checked s (emptyTree z r) ≡ Passes
-unfolding checked sized rooted orphan every listFits linked onceEach levels levelsFrom nextLevel joined occurs upFrom ownList leafLists filled loneRoot level sameKind growing weighed weighs totalOf collected nodeAt lowest nodeCap mergedBelow
+unfolding checked conditions sized rooted orphan every listFits linked onceEach levels levelsFrom nextLevel joined occurs upFrom ownList leafLists filled loneRoot level sameKind growing weighed weighs totalOf collected nodeAt lowest nodeCap mergedBelow
 bare-passes s z r hz one hg =
     go (leb 1 ((s .«max_leaves» + 1) * (s .«max_leaves» + 2) / 2))
     (is-true (leb 1 ((s .«max_leaves» + 1) * (s .«max_leaves» + 2) / 2)) (le→leb 1 ((s .«max_leaves» + 1) * (s .«max_leaves» + 2) / 2) (omega arith)))
@@ -135,18 +136,12 @@ zero-of z r f w = eq-zero (z .weight) f (and-l (eq (whole 0) (z .weight)) true (
 
 -- an empty tree that passes is one bare leaf
 pub checked-bare : (s : Settings) (t : Tree) → Binary64 t → length (t .entries) ≡ 0 → checked s t ≡ Passes → Bare t × Below s (t .running)
-unfolding checked nodeAt mergedBelow
+unfolding nodeAt mergedBelow
 checked-bare s t lent none-in h =
-    let b = lowest-none 1 (sized s t ∷ rooted t ∷ every (listFits s t) (t .nodes) ∷ linked t ∷ filled t ∷ level t ∷ weighed t ∷ mergedBelow s (t .running) ∷ []) h in
-    let c = b .1 in
-    let d = c .1 in
-    let e = d .1 in
-    let f = e .1 in
-    let g = f .1 in
-    let i = g .1 in (
-      shape (t .nodes) refl (one-node s t (c .0) (d .0) (e .0) (f .0) (g .0) none-in) (root-zero s t (c .0) (d .0) (e .0) (f .0) (g .0) none-in) (c .0) (d .0)
-          (e .0) (f .0) (i .0),
-      ltb→lt (t .running .merged) (s .«max_leaves») (i .1 .0),
+    let p = passing-of s t h in (
+      shape (t .nodes) refl (one-node s t (p .root) (p .lists) (p .links) (p .full) (p .even) none-in) (root-zero s t (p .root) (p .lists) (p .links) (p .full) (p .even) none-in)
+          (p .root) (p .lists) (p .links) (p .full) (p .weights),
+      ltb→lt (t .running .merged) (s .«max_leaves») (p .merged),
     )
   where
     as-tree : List Node → List Summary → ℕ → Tree

@@ -20,8 +20,8 @@ use Rattle.head.specs.Sizes.{nodeCap}
 use Rattle.rules.specs.declared.Verdict.the-variants.{Passes}
 use Rattle.rules.specs.Lists.{upFrom, every, occurs, joined}
 use Rattle.rules.specs.Tree.{Node, Tree, nodeAt, entryAt, blankNode, cap}
-use Rattle.rules.specs.Check.{onceEach, orphan, names, sized, rooted, listFits, levels, ownList, leafLists, linked, loneRoot, filled, level, rowsIn, totalOf}
-use Rattle.rules.specs.Check.{weighs, weighed, lowest, checked, known, mergedBelow}
+use Rattle.rules.specs.Check.{onceEach, orphan, names, sized, rooted, listFits, levels, ownList, leafLists, linked, loneRoot, filled, rowsIn, totalOf}
+use Rattle.rules.specs.Check.{weighs, weighed, checked, known, mergedBelow}
 use Rattle.rules.specs.Reinsert.{collected}
 use Rattle.counting.specs.Count.{is, below, below-in}
 use Rattle.counting.specs.Sums.{over, over-append, occurs-over, length-over, sumTo, occurs-here, sum-ones, occurs-later}
@@ -34,6 +34,8 @@ use Rattle.counting.specs.Flags.{is-sum}
 use Rattle.laws.specs.Check.Beneath.{beneath-weighs}
 use Rattle.laws.specs.Check.Levels.{levels-once, each-once, level-holds}
 use Rattle.laws.specs.Room.Kept.{room-enough}
+use Rattle.rules.specs.CheckLaws.{passing-passes}
+use Rattle.laws.specs.Running.{Below}
 
 -- ---- tests over lists
 
@@ -89,16 +91,6 @@ entries-sum d [] = refl
 entries-sum d (e ∷ l) = let a = entries-sum d l in let b = sum-first (λ k. rowsIn (getD (e ∷ l) k d)) (length l) in omega arith
 
 -- ---- the conditions
-
-abbrev pub Trues : List Bool → Type 0
-Trues [] = Unit
-Trues (b ∷ bs) = T b × Trues bs
-
-pub lowest-all : (i : ℕ) (bs : List Bool) → Trues bs → lowest i bs ≡ Passes
-unfolding lowest
-lowest-all i [] h = refl
-lowest-all i (true ∷ bs) h = lowest-all (suc i) bs (h .1)
-lowest-all i (false ∷ bs) h = absurd (h .0)
 
 module _ {s : Settings} {t : Tree} {R : ℕ → ℕ} {total : ℕ} (g : Settled s t R total) (n : Counted t total) (few : length (t .entries) ≤ s .«max_leaves») where
   fr : Frame (nodeAt t) (length (t .nodes)) (t .root) (length (t .entries)) R
@@ -199,7 +191,15 @@ module _ {s : Settings} {t : Tree} {R : ℕ → ℕ} {total : ℕ} (g : Settled 
       (every-up (weighs t) (length (t .nodes)) 0 (λ c q. node-weighs c (omega arith)))
 
   -- all eight conditions
-  pub whole-passes : t .running .merged < s .«max_leaves» → checked s t ≡ Passes
-  unfolding checked mergedBelow
-  whole-passes m = lowest-all 1 (sized s t ∷ rooted t ∷ every (listFits s t) (t .nodes) ∷ linked t ∷ filled t ∷ level t ∷ weighed t ∷ mergedBelow s (t .running) ∷ [])
-      (c1, (c2, (c3, (c4, (c5, (level-holds t (g .links), (weighed-holds, (lt→ltb (t .running .merged) (s .«max_leaves») m, tt))))))))
+  pub whole-passes : Below s (t .running) → checked s t ≡ Passes
+  unfolding mergedBelow
+  whole-passes m = passing-passes s t (record {
+    counts = c1;
+    root = c2;
+    lists = c3;
+    links = c4;
+    full = c5;
+    even = level-holds t (g .links);
+    weights = weighed-holds;
+    merged = lt→ltb (t .running .merged) (s .«max_leaves») m;
+  })

@@ -1,10 +1,10 @@
 -- A tree that passes the check, with an entry, is one that the invariant holds of.
 use lib.Ieee.Bits.{is-true}
-use Prim.Native.Nat.{ℕ, suc, _≤_, _<_}
+use Prim.Native.Nat.{ℕ, _≤_, _<_}
 use mathlib.Core.Path.{_≡_, sym, _∙_, subst}
 use mathlib.Core.Logic.{_⊎_, inl, inr}
-use mathlib.Core.Bool.{Bool, true, false, _&&_}
-use mathlib.Core.List.{List, [], _∷_, map}
+use mathlib.Core.Bool.{true, false, _&&_}
+use mathlib.Core.List.{[], _∷_, map}
 use native.Mathlib.Omega.{arith}
 use lib.Dec.{T, leb, eqb, leb→le, ltb→lt, eqb→eq}
 use lib.Ieee.{binary64, fits, eq}
@@ -21,7 +21,7 @@ use Rattle.rules.specs.declared.Verdict.the-variants.{Passes}
 use Rattle.rules.specs.Lists.{upFrom, every}
 use Rattle.rules.specs.Tree.{Tree, nodeAt, entryAt}
 use Rattle.rules.specs.Reinsert.{collected}
-use Rattle.rules.specs.Check.{sized, rooted, listFits, linked, filled, loneRoot, level, rowsIn, totalOf, weighs, weighed, lowest, checked, mergedBelow}
+use Rattle.rules.specs.Check.{sized, loneRoot, rowsIn, totalOf, weighs, weighed, checked, mergedBelow}
 use Rattle.laws.specs.Invariant.Weights.{exact-count, exact-is, IsExact}
 use Rattle.counting.specs.Sums.{over-same, sumTo}
 use Rattle.laws.specs.Invariant.Links.{Links, nil, leaf?}
@@ -29,10 +29,12 @@ use Rattle.laws.specs.Invariant.Beneath.{Frame, frame-of, kid-below}
 use Rattle.laws.specs.Invariant.Weigh.{own, own-leaf, own-inner}
 use Rattle.laws.specs.Invariant.Sound.{entryWeight, nodeWeight, Settled}
 use Rattle.laws.specs.Inserting.Grown.{Counted, Whole}
-use Rattle.laws.specs.Check.Passing.{entries-sum, Trues}
+use Rattle.laws.specs.Check.Passing.{entries-sum}
 use Rattle.laws.specs.Check.Beneath.{rowsBeneath, rows-leaf, rows-inner, rows-le, rows-root, rows-some, beneath-is}
 use Rattle.laws.specs.Check.Accept.{ranks, accepted-links}
 use Rattle.counting.specs.Tests.{every-at, up-at}
+use Rattle.rules.specs.CheckLaws.{passing-of}
+use Rattle.laws.specs.Running.{Below}
 
 -- the floats are of binary64, as every number of a lent slice is
 pub record Binary64 (t : Tree) : Type 0 where
@@ -127,37 +129,24 @@ module _ {s : Settings} {t : Tree} {R : ℕ → ℕ} (g : Links s (nodeAt t) (le
 
 -- ---- all eight
 
-pub lowest-none : (i : ℕ) (bs : List Bool) → lowest i bs ≡ Passes → Trues bs
-unfolding lowest
-lowest-none i [] h = tt
-lowest-none i (true ∷ bs) h = (tt, lowest-none (suc i) bs h)
-lowest-none i (false ∷ bs) h = let z : _≡_ {A = ℕ} 0 1 = cc in absurd (omega arith)
-
 not-lone : (t : Tree) → 0 < length (t .entries) → T (loneRoot t) → ⊥
 unfolding loneRoot
 not-lone t h q = let e = eqb→eq (length (t .entries)) 0 (and-r (eqb (length (t .nodes)) 1) (eqb (length (t .entries)) 0) q) in omega arith
 
 -- a tree with entries that passes satisfies the invariant, with the sum of its entries' weights as total
 pub checked-whole : (s : Settings) (t : Tree) → Binary64 t → 0 < length (t .entries) → checked s t ≡ Passes → Whole s t (totalOf (t .entries)) ×
-    (length (t .entries) ≤ s .«max_leaves») × (t .running .merged < s .«max_leaves»)
-unfolding checked sized mergedBelow
+    (length (t .entries) ≤ s .«max_leaves») × Below s (t .running)
+unfolding sized mergedBelow
 checked-whole s t lent here h =
-    let b = lowest-none 1 (sized s t ∷ rooted t ∷ every (listFits s t) (t .nodes) ∷ linked t ∷ filled t ∷ level t ∷ weighed t ∷ mergedBelow s (t .running) ∷ []) h in
-    let h1 = b .0 in
-    let c = b .1 in
-    let d = c .1 in
-    let e = d .1 in
-    let f = e .1 in
-    let g = f .1 in
-    let i = g .1 in
+    let p = passing-of s t h in
     let there : T (loneRoot t) → ⊥ = not-lone t here in
-    let links = accepted-links s t (c .0) (d .0) (e .0) (f .0) there (g .0) in (
+    let links = accepted-links s t (p .root) (p .lists) (p .links) (p .full) there (p .even) in (
       (
-        ranks s t (c .0) (d .0) (e .0) (f .0) there,
-        taken links lent (i .0),
-        counted links lent (i .0),
+        ranks s t (p .root) (p .lists) (p .links) (p .full) there,
+        taken links lent (p .weights),
+        counted links lent (p .weights),
       ),
       leb→le (length (t .entries)) (s .«max_leaves»)
-          (and-r (leb 1 (length (t .nodes)) && leb (length (t .nodes)) (nodeCap s)) (leb (length (t .entries)) (s .«max_leaves»)) h1),
-      ltb→lt (t .running .merged) (s .«max_leaves») (i .1 .0),
+          (and-r (leb 1 (length (t .nodes)) && leb (length (t .nodes)) (nodeCap s)) (leb (length (t .entries)) (s .«max_leaves»)) (p .counts)),
+      ltb→lt (t .running .merged) (s .«max_leaves») (p .merged),
     )

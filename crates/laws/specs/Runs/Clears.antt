@@ -20,9 +20,8 @@ use Rattle.rules.specs.Rebuild.{inserted, insertedAll}
 use Rattle.rules.specs.Refit.{refitted}
 use Rattle.rules.specs.Check.{checked, totalOf}
 use Rattle.rules.specs.Slices.{nodeIn, slotAt, treeOf}
-use Rattle.rules.specs.Calls.{Lent, lentTree, changeRefusals, changed, rowInserted, batchInserted, batchRefitted}
-use Rattle.rules.specs.RefusalLaws.{none-both}
-use Rattle.rules.specs.CallLaws.{accepted-done, Ready, change-ready}
+use Rattle.rules.specs.Calls.{Lent, lentTree, changed, rowInserted, batchInserted, batchRefitted}
+use Rattle.rules.specs.CallLaws.{accepted-done, Ready, row-taken, batch-taken, refit-taken}
 use Rattle.rules.specs.Cleared.{Clears, changed-clears}
 use Rattle.rules.specs.Held.{in-shaped}
 use Rattle.counting.specs.All.{All, all-append}
@@ -63,15 +62,15 @@ module _ (h : Head) (l : Lent) where
 
   pub row-ready : (x : List Float) → rowInserted h l x .answer ≡ Accepted → Ready h l
   unfolding rowInserted
-  row-ready x e = change-ready h l (none-both (changeRefusals h l) _ (accepted-done _ h l _ e .0) .0)
+  row-ready x e = row-taken h l x (accepted-done _ h l _ e .0) .ready
 
   pub batch-ready : (xs : List Float) → batchInserted h l xs .answer ≡ Accepted → Ready h l
   unfolding batchInserted
-  batch-ready xs e = change-ready h l (none-both (changeRefusals h l) _ (accepted-done _ h l _ e .0) .0)
+  batch-ready xs e = batch-taken h l xs (accepted-done _ h l _ e .0) .ready
 
   pub refit-ready : (xs : List Float) → batchRefitted h l xs .answer ≡ Accepted → Ready h l
   unfolding batchRefitted
-  refit-ready xs e = change-ready h l (none-both (changeRefusals h l) _ (accepted-done _ h l _ e .0) .0)
+  refit-ready xs e = refit-taken h l xs (accepted-done _ h l _ e .0) .ready
 
   -- ---- from a tree at rest
 

@@ -7,7 +7,6 @@ use native.Mathlib.Omega.{arith}
 use lib.ListN.{length, drop, length-append, length-drop}
 use lib.Ieee.{Float}
 use Rattle.binary64.specs.Whole.{most}
-use Rattle.head.specs.declared.refusal.Refusal.the-variants as Refusals
 use Rattle.head.specs.declared.Settings.{Settings}
 use Rattle.head.specs.declared.Head.{Head}
 use Rattle.head.specs.declared.refusal.Refusal.{Refusal}
@@ -15,16 +14,14 @@ use Rattle.head.specs.declared.refusal.Answer.the-variants.{Accepted, Refused}
 use Rattle.head.specs.Heads.{newCounters, settingsOf, withCounters}
 use Rattle.head.specs.Sizes.{linksNeeded, floatsNeeded}
 use Rattle.head.specs.Limits.{allowed-sized, Sized, sizesWithin, choicesWithin, allowed}
-use Rattle.rules.specs.Calls.{Made, createRefusals, Lent, Left, lentTree, fronted, changed, settle}
-use Rattle.rules.specs.Calls.{created, rowInserted, batchInserted, batchRefitted, insertFullRefusal, refitFullRefusal, rowRefusals, batchRefusals}
-use Rattle.rules.specs.Calls.{batchShapeRefusal, madeBy, settingsRefusal, changeRefusals, roomRefusal, rowShapeRefusal}
+use Rattle.rules.specs.Calls.{Made, createRefusals, rowRefusals, batchRefusals, refitRefusals, Lent, Left, lentTree, fronted, changed, settle}
+use Rattle.rules.specs.Calls.{madeBy, created, rowInserted, batchInserted, batchRefitted}
 use Rattle.rules.specs.Tree.{fresh, Tree}
 use Rattle.rules.specs.Slices.{countersOf, floatsOf, linksOf}
 use Rattle.rules.specs.ListLaws.{rows-count}
-use Rattle.rules.specs.CallLaws.{accepted-done}
+use Rattle.rules.specs.CallLaws.{accepted-done, create-allows, create-roomy, row-taken, batch-taken, refit-taken, changed-settings}
 use Rattle.rules.specs.Cleared.{changed-tree}
 use Rattle.rules.specs.Creation.{made-done}
-use Rattle.rules.specs.RefusalLaws.{none-both, unless-none, room-none, insert-full-none, refit-full-none}
 use Rattle.rules.specs.Lists.{rowsOf}
 use Rattle.rules.specs.Stored.{stored}
 use Rattle.rules.specs.Check.{totalOf}
@@ -40,10 +37,6 @@ use Rattle.laws.specs.Runs.Threshold.{inserted-fine, all-fine, refitted-
 use Rattle.laws.specs.Runs.Fitting.{resting-fits}
 use Rattle.laws.specs.Running.{Fine}
 use Rattle.head.specs.Counting.{newRunning}
-
-changed-settings : (h : Head) (l : Lent) (t : Tree) → settingsOf (changed h l t .head) ≡ settingsOf h
-unfolding changed settingsOf withCounters
-changed-settings h l t = refl
 
 -- ---- what holds throughout: the head is within its limits, the buffers have room, and the lent tree is that of a run over the rules
 
@@ -112,32 +105,24 @@ module _ (h : Head) (l : Lent) where
 
   pub row-accepted : (x : List Float) → rowInserted h l x .answer ≡ Accepted → (rowInserted h l x ≡ changed h l (inserted s x t))
       × (totalOf (t .entries) + 1 ≤ most)
-  unfolding rowInserted rowRefusals
-  row-accepted x e =
-      let (none, is) = accepted-done (changeRefusals h l ++ rowRefusals s t x) h l (changed h l (inserted s x t)) e in
-      let wrong = none-both (changeRefusals h l) (rowRefusals s t x) none .1 in
-      (is, insert-full-none t 1 (none-both (rowShapeRefusal (s .dim) (length x)) (insertFullRefusal t 1) wrong .1))
+  unfolding rowInserted
+  row-accepted x e = let (taken, is) = accepted-done (rowRefusals h l x) h l (changed h l (inserted s x t)) e in (is, row-taken h l x taken .room)
 
   pub batch-accepted : (xs : List Float) → batchInserted h l xs .answer ≡ Accepted
       → (batchInserted h l xs ≡ changed h l (insertedAll s (rowsIn h xs) t)) × (totalOf (t .entries) + length (rowsIn h xs) ≤ most)
-  unfolding batchInserted batchRefusals rowsIn
+  unfolding batchInserted rowsIn
   batch-accepted xs e =
       let n = length xs / s .dim in
-      let (none, is) = accepted-done (changeRefusals h l ++ batchRefusals s t xs) h l (changed h l (insertedAll s (rowsOf n (s .dim) xs) t)) e in
-      let wrong = none-both (changeRefusals h l) (batchRefusals s t xs) none .1 in
-      let small = insert-full-none t n (none-both (batchShapeRefusal (s .dim) (length xs)) (insertFullRefusal t n) wrong .1) in
-      let c = rows-count n (s .dim) xs in
-      (is, omega arith)
+      let (taken, is) = accepted-done (batchRefusals h l xs) h l (changed h l (insertedAll s (rowsOf n (s .dim) xs) t)) e in
+      (is, rw (rows-count n (s .dim) xs) (batch-taken h l xs taken .room))
 
   pub refit-accepted : (xs : List Float) → batchRefitted h l xs .answer ≡ Accepted
       → (batchRefitted h l xs ≡ changed h l (refitted s (rowsIn h xs) t)) × (0 < length (t .entries) → length (rowsIn h xs) ≤ most)
   unfolding batchRefitted rowsIn
   refit-accepted xs e =
       let n = length xs / s .dim in
-      let wrong = batchShapeRefusal (s .dim) (length xs) ++ refitFullRefusal t n in
-      let (none, is) = accepted-done (changeRefusals h l ++ wrong) h l (changed h l (refitted s (rowsOf n (s .dim) xs) t)) e in
-      let full = none-both (batchShapeRefusal (s .dim) (length xs)) (refitFullRefusal t n) (none-both (changeRefusals h l) wrong none .1) .1 in
-      (is, λ m. let small = refit-full-none t n full m in let c = rows-count n (s .dim) xs in omega arith)
+      let (taken, is) = accepted-done (refitRefusals h l xs) h l (changed h l (refitted s (rowsOf n (s .dim) xs) t)) e in
+      (is, rw (rows-count n (s .dim) xs) (refit-taken h l xs taken .room))
 
   module _ (ys : List (List Float)) (a : List ℕ) (p : Public h (l .floats) (l .links) ys a) where
     -- ---- what is left then is public
@@ -177,21 +162,18 @@ module _ (h : Head) (l : Lent) where
     pub any-row : (x : List Float) (o : Left) → o ≡ rowInserted h l x
         → PublicAfter o (after (o .answer) (ys ++ (x ∷ [])) ys) (after (o .answer) (ownersIn s x t a) a)
     unfolding rowInserted
-    any-row x o e = answered (changeRefusals h l ++ rowRefusals s t x) h l (inserted s x t) p (after-row x) o e
+    any-row x o e = answered (rowRefusals h l x) h l (inserted s x t) p (after-row x) o e
 
     pub any-batch : (xs : List Float) (o : Left) → o ≡ batchInserted h l xs
         → PublicAfter o (after (o .answer) (ys ++ rowsIn h xs) ys) (after (o .answer) (ownersAll s (rowsIn h xs) t a) a)
     unfolding batchInserted rowsIn
     any-batch xs o e =
-        answered (changeRefusals h l ++ batchRefusals s t xs) h l (insertedAll s (rowsOf (length xs / s .dim) (s .dim) xs) t) p (after-batch xs) o e
+        answered (batchRefusals h l xs) h l (insertedAll s (rowsOf (length xs / s .dim) (s .dim) xs) t) p (after-batch xs) o e
 
     pub any-refit : (xs : List Float) (o : Left) → o ≡ batchRefitted h l xs
         → PublicAfter o (after (o .answer) (rowsRefit (rowsIn h xs) t ys) ys) (after (o .answer) (ownersRefit s (rowsIn h xs) t a) a)
     unfolding batchRefitted rowsIn
-    any-refit xs o e =
-        let n = length xs / s .dim in
-        answered (changeRefusals h l ++ (batchShapeRefusal (s .dim) (length xs) ++ refitFullRefusal t n)) h l (refitted s (rowsOf n (s .dim) xs) t) p
-        (after-refit xs) o e
+    any-refit xs o e = answered (refitRefusals h l xs) h l (refitted s (rowsOf (length xs / s .dim) (s .dim) xs) t) p (after-refit xs) o e
 
     -- ---- locality of an accepted row without a rebuild
 
@@ -234,13 +216,11 @@ module _ (h : Head) (fs : List Float) (ls : List ℕ) where
       }
 
   pub after-create : created h fs ls .answer ≡ Accepted → PublicMade (created h fs ls)
-  unfolding created createRefusals settingsRefusal
+  unfolding created
   after-create e =
-      let more = roomRefusal (floatsNeeded new) (length fs) ++ roomRefusal (linksNeeded new) (length ls) in
-      let (rs, is) = made-done (settingsRefusal h ++ more) h fs ls e in
-      let (a, b) = none-both (settingsRefusal h) more rs in
-      let (c, d) = none-both (roomRefusal (floatsNeeded new) (length fs)) (roomRefusal (linksNeeded new) (length ls)) b in
-      subst PublicMade (sym is) (fresh-made (unless-none (allowed h) Refusals.Settings a) (room-none _ _ c) (room-none _ _ d))
+      let (none, is) = made-done (createRefusals h fs ls) h fs ls e in
+      let r = create-roomy h fs ls none in
+      subst PublicMade (sym is) (fresh-made (create-allows h fs ls none) (r .floats-room) (r .links-room))
 
 made-refused : (rs : List Refusal) (r : Refusal) (h : Head) (fs : List Float) (ls : List ℕ) {ys : List (List Float)} {a : List ℕ}
     → madeBy rs h fs ls .answer ≡ Refused r → Public h fs ls ys a

@@ -15,7 +15,7 @@ use Rattle.head.specs.declared.refusal.Refusal.the-variants.{Full}
 use Rattle.head.specs.Heads.{settingsOf}
 use Rattle.head.specs.Sizes.{floatsNeeded, linksNeeded, scratchFloatsNeeded, scratchLinksNeeded}
 use Rattle.rules.specs.Calls.{unless, settingsRefusal, roomRefusal, treeRefusal, rowShapeRefusal, batchShapeRefusal, insertFullRefusal, refitFullRefusal}
-use Rattle.rules.specs.Calls.{Lent, lentTree, treeRefusals, changeRefusals, changed, settle, rowRefusals, batchRefusals, rowInserted, batchInserted, batchRefitted}
+use Rattle.rules.specs.Calls.{Lent, lentTree, createRefusals, treeRefusals, changeRefusals, rowAsked, rowsAsked, batchAsked, refitAsked, rowRefusals, batchRefusals, refitRefusals, changed, settle, rowInserted, batchInserted, batchRefitted}
 use Rattle.rules.specs.Tree.{Tree}
 use Rattle.rules.specs.Insert.{grown}
 use Rattle.rules.specs.Check.{totalOf}
@@ -77,7 +77,7 @@ module _ {h : Head} (l : Lent) {ys : List (List Float)} {a : List ℕ} (c : Call
 -- ---- a run can always go on: what any calls left is refused by none of 1, 2 and 3
 
 pub calls-go-on : {h : Head} {fs : List Float} {ls : List ℕ} {ys : List (List Float)} {a : List ℕ} → Calls h fs ls ys a → treeRefusals h fs ls ≡ []
-unfolding treeRefusals settingsRefusal roomRefusal treeRefusal unless
+unfolding treeRefusals createRefusals settingsRefusal roomRefusal treeRefusal unless
 calls-go-on {h} {fs} {ls} {ys} c =
     let p = calls-public c in
     let s = settingsOf h in
@@ -92,7 +92,7 @@ module _ {h : Head} (l : Lent) {ys : List (List Float)} {a : List ℕ} (c : Call
   t = lentTree h (l .floats) (l .links)
 
   none-changed : changeRefusals h l ≡ []
-  unfolding changeRefusals settingsRefusal roomRefusal treeRefusal unless
+  unfolding changeRefusals createRefusals settingsRefusal roomRefusal treeRefusal unless
   none-changed =
       let p = calls-public c in
       let s = settingsOf h in
@@ -103,14 +103,14 @@ module _ {h : Head} (l : Lent) {ys : List (List Float)} {a : List ℕ} (c : Call
       rw (p .allows, f, k, sf, sk, resting-passes s t (length ys) (calls-rest c))
 
   pub row-goes-on : (x : List Float) → length x ≡ settingsOf h .dim → length ys + 1 ≤ most → rowInserted h l x .answer ≡ Accepted
-  unfolding rowInserted rowRefusals rowShapeRefusal insertFullRefusal unless settle changed
+  unfolding rowInserted rowRefusals rowAsked rowShapeRefusal insertFullRefusal unless settle changed
   row-goes-on x e room =
       let n = rest-total (calls-rest c) in
       rw (none-changed, eq-eqb (length x) (settingsOf h .dim) e, le-leb (totalOf (t .entries) + 1) most (omega arith))
 
   pub batch-goes-on : (xs : List Float) → length xs % settingsOf h .dim ≡ 0 → length ys + length xs / settingsOf h .dim ≤ most
       → batchInserted h l xs .answer ≡ Accepted
-  unfolding batchInserted batchRefusals batchShapeRefusal insertFullRefusal unless settle changed
+  unfolding batchInserted batchRefusals batchAsked rowsAsked batchShapeRefusal insertFullRefusal unless settle changed
   batch-goes-on xs e room =
       let n = rest-total (calls-rest c) in
       rw (none-changed, eq-eqb (length xs % settingsOf h .dim) 0 e, le-leb (totalOf (t .entries) + length xs / settingsOf h .dim) most (omega arith))
@@ -121,7 +121,7 @@ module _ {h : Head} (l : Lent) {ys : List (List Float)} {a : List ℕ} (c : Call
   none-full false d e = rw e
 
   pub refit-goes-on : (xs : List Float) → length xs % settingsOf h .dim ≡ 0 → length xs / settingsOf h .dim ≤ most → batchRefitted h l xs .answer ≡ Accepted
-  unfolding batchRefitted batchShapeRefusal refitFullRefusal unless settle changed
+  unfolding batchRefitted refitRefusals refitAsked rowsAsked batchShapeRefusal refitFullRefusal unless settle changed
   refit-goes-on xs e room =
       let n = length xs / settingsOf h .dim in
       rw (none-changed, eq-eqb (length xs % settingsOf h .dim) 0 e, none-full (eqb (length (t .entries)) 0) (leb n most) (le-leb n most room))

@@ -13,7 +13,7 @@ use Rattle.feature.specs.Summaries.{blank}
 use Rattle.head.specs.declared.Settings.{Settings}
 use Rattle.head.specs.Limits.{Sized}
 use Rattle.rules.specs.Lists.{occurs}
-use Rattle.rules.specs.CallLaws.{passes-total}
+use Rattle.rules.specs.CheckLaws.{passes-total}
 use Rattle.rules.specs.Tree.{Tree, fresh, entryAt}
 use Rattle.rules.specs.Rebuild.{insertedAll}
 use Rattle.rules.specs.Refit.{refitted}

@@ -9,7 +9,7 @@ use Rattle.rules.specs.Check.{mergedBelow, lowest, checked}
 use Rattle.arena.specs.Trees.{Floats, Links}
 use Prim.Native.Nat.{ℕ, suc, _≤_, _<_}
 use mathlib.Core.List.{[]}
-use Rattle.validate.specs.Examined.{conditions, examined, checked-is, fails, holds}
+use Rattle.validate.specs.Examined.{tested, examined, checked-is, fails, holds}
 use Rattle.lists.specs.Lent.{Listed}
 use Rattle.validate.specs.Granted.{sized-links, sized-floats, sized-few, rooted-in, lent-binary64}
 use Rattle.validate.proofs.validate.Statement.{statement}
@@ -21,7 +21,7 @@ lent c = treeOf (c .args .s) (c .args .n) (c .args .floats .now) (c .args .links
 
 -- the verdict is left to the conditions after the first k
 abbrev Met : ℕ → tie.Start → Type 0
-Met k c = checked (c .args .s) (lent c) ≡ lowest (suc k) (drop k (conditions (c .args .s) (lent c)))
+Met k c = checked (c .args .s) (lent c) ≡ lowest (suc k) (drop k (tested (c .args .s) (lent c)))
 
 -- ---- where each condition has passed
 
@@ -54,32 +54,32 @@ met-0 c =
     (c .before .shared-slice-known .given))
 
 met-1 : (c : tie.Else1) → Met 1 (start-1 c)
-unfolding conditions
+unfolding tested
 met-1 c = holds 1 _ _ (met-0 (c .before .before)) (sym (c .before .sized .ensures (start-1 c .args .floats .now) (start-1 c .args .links .now)) ∙ not-false
     _ (c .if1 .left))
 
 met-2 : (c : tie.Else2) → Met 2 (start-2 c)
-unfolding conditions
+unfolding tested
 met-2 c = holds 2 _ _ (met-1 (c .before .before)) (sym (c .before .rooted .ensures (start-2 c .args .floats .now)) ∙ not-false _ (c .if2 .left))
 
 met-3 : (c : tie.Else3) → Met 3 (start-3 c)
-unfolding conditions
+unfolding tested
 met-3 c = holds 3 _ _ (met-2 (c .before .before)) (sym (c .before .lists-fit .ensures (start-3 c .args .floats .now)) ∙ not-false _ (c .if3 .left))
 
 met-4 : (c : tie.Else4) → Met 4 (start-4 c)
-unfolding conditions
+unfolding tested
 met-4 c = holds 4 _ _ (met-3 (c .before .before)) (sym (c .before .hung .ensures (start-4 c .args .floats .now)) ∙ not-false _ (c .if4 .left))
 
 met-5 : (c : tie.Else5) → Met 5 (start-5 c)
-unfolding conditions
+unfolding tested
 met-5 c = holds 5 _ _ (met-4 (c .before .before)) (sym (c .before .filled .ensures (start-5 c .args .floats .now)) ∙ not-false _ (c .if5 .left))
 
 met-6 : (c : tie.Else6) → Met 6 (start-6 c)
-unfolding conditions
+unfolding tested
 met-6 c = holds 6 _ _ (met-5 (c .before .before)) (sym (c .before .forking .ensures (start-6 c .args .floats .now)) ∙ not-false _ (c .if6 .left))
 
 met-7 : (c : tie.Else7) → Met 7 (start-7 c)
-unfolding conditions
+unfolding tested
 met-7 c = holds 7 _ _ (met-6 (c .before .before)) (sym (c .before .summed .ensures) ∙ not-false _ (c .if7 .left))
 
 -- ---- what they give to the code after them
@@ -112,7 +112,7 @@ listed : (c : tie.Else3) → Listed (start-3 c .args .s) (start-3 c .args .n) (s
 listed c = λ fs. sym (c .before .lists-fit .ensures fs) ∙ not-false _ (c .if3 .left)
 
 returns : tie.Need-returns
-unfolding conditions
+unfolding tested
 returns c = fails 1 _ _ (met-0 (c .before .before)) (sym (c .before .sized .ensures (c .before .before .before .before .args .floats .now)
     (c .before .before .before .before .args .links .now)) ∙ not-true _ (c .if1 .taken))
 
@@ -120,7 +120,7 @@ rooted-requires : tie.Need-rooted-requires
 rooted-requires c κs = links c
 
 returns-2 : tie.Need-returns-2
-unfolding conditions
+unfolding tested
 returns-2 c = fails 2 _ _ (met-1 (c .before .before)) (sym (c .before .rooted .ensures ((start-1 (c .before .before)) .args .floats .now)) ∙ not-true _
     (c .if2 .taken))
 
@@ -128,7 +128,7 @@ lists-fit-requires : tie.Need-lists-fit-requires
 lists-fit-requires c κs = links (c .before .before)
 
 returns-3 : tie.Need-returns-3
-unfolding conditions
+unfolding tested
 returns-3 c = fails 3 _ _ (met-2 (c .before .before)) (sym (c .before .lists-fit .ensures ((start-2 (c .before .before)) .args .floats .now)) ∙ not-true _
     (c .if3 .taken))
 
@@ -136,7 +136,7 @@ hung-requires : tie.Need-hung-requires
 hung-requires c κs = (links (c .before .before .before .before), listed c, few (c .before .before .before .before), root-in (c .before .before))
 
 returns-4 : tie.Need-returns-4
-unfolding conditions
+unfolding tested
 returns-4 c = fails 4 _ _ (met-3 (c .before .before)) (sym (c .before .hung .ensures ((start-3 (c .before .before)) .args .floats .now)) ∙ not-true _
     (c .if4 .taken))
 
@@ -144,7 +144,7 @@ filled-requires : tie.Need-filled-requires
 filled-requires c κs = links (c .before .before .before .before .before .before)
 
 returns-5 : tie.Need-returns-5
-unfolding conditions
+unfolding tested
 returns-5 c = fails 5 _ _ (met-4 (c .before .before)) (sym (c .before .filled .ensures ((start-4 (c .before .before)) .args .floats .now)) ∙ not-true _
     (c .if5 .taken))
 
@@ -152,7 +152,7 @@ forking-requires : tie.Need-forking-requires
 forking-requires c κs = (links (c .before .before .before .before .before .before .before .before), root-in (c .before .before .before .before .before .before))
 
 returns-6 : tie.Need-returns-6
-unfolding conditions
+unfolding tested
 returns-6 c = fails 6 _ _ (met-5 (c .before .before)) (sym (c .before .forking .ensures ((start-5 (c .before .before)) .args .floats .now)) ∙ not-true _
     (c .if6 .taken))
 
@@ -166,16 +166,16 @@ summed-requires c κs = (
 )
 
 returns-7 : tie.Need-returns-7
-unfolding conditions
+unfolding tested
 returns-7 c = fails 7 _ _ (met-6 (c .before .before)) (sym (c .before .summed .ensures) ∙ not-true _ (c .if7 .taken))
 
 returns-8 : tie.Need-returns-8
-unfolding conditions mergedBelow treeOf
+unfolding tested mergedBelow treeOf
 returns-8 c = let start = start-7 (c .before .before .before) in fails 8 _ _ (met-7 (c .before .before .before))
     (le-ltb (start .args .n .running .merged) (start .args .s .«max_leaves») (c .if8 .taken))
 
 returns-9 : tie.Need-returns-9
-unfolding conditions mergedBelow treeOf lowest
+unfolding tested mergedBelow treeOf lowest
 returns-9 c = let start = start-7 (c .before .before .before) in sym
     (holds 8 _ [] (met-7 (c .before .before .before)) (lt-ltb (start .args .n .running .merged) (start .args .s .«max_leaves») (c .if8 .left)))
 

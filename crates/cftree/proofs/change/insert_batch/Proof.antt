@@ -2,12 +2,13 @@
 use mathlib.Core.Path.{_≡_, sym, _∙_}
 use borrow.Author.Needs.{needs}
 use Rattle.cftree.specs.Outcomes.{refused-as-lent, done-as-ruled}
-use Rattle.cftree.specs.Accepted.{ofBatch, batch-accepted, rows-in, insertable}
+use Rattle.cftree.specs.Accepted.{rows-in, insertable}
 use Rattle.refusals.specs.Lending.{lending}
 use Rattle.head.specs.declared.refusal.Answer.the-variants.{Accepted}
 use Rattle.head.specs.Heads.{settingsOf}
 use Rattle.head.specs.Limits.{allowed-sized}
-use Rattle.rules.specs.Calls.{Lent, answerOf, batchInserted}
+use Rattle.rules.specs.Calls.{Lent, answerOf, batchRefusals, batchInserted}
+use Rattle.rules.specs.CallLaws.{batch-taken}
 use Rattle.work.specs.Worked.{worked}
 use Rattle.cftree.proofs.change.insert_batch.Statement.{statement}
 use Rattle.cftree.proofs.change.insert_batch.Tie as tie
@@ -19,33 +20,33 @@ lent c = lending (c .args .floats .now) (c .args .links .now) (c .args .scratch 
 abbrev start : tie.After-enum-told → tie.Start
 start c = (c .before .before .before .before .before .before .before .before .before .before .before .before)
 
-accepts : (c : tie.After-enum-told) → answerOf (ofBatch (start c .args .h) (lent (start c)) (start c .args .rows .now)) ≡ Accepted
+accepts : (c : tie.After-enum-told) → answerOf (batchRefusals (start c .args .h) (lent (start c)) (start c .args .rows .now)) ≡ Accepted
 accepts c = sym (c .before .before .batch .ensures) ∙ c .enum-told .given .1
 
 returns : tie.Need-returns
 unfolding batchInserted
 returns c =
     let start = (c .before .before .before .before .before .before .before .before .before .before .before .before) in
-    refused-as-lent (start .args .h) (lent start) (ofBatch (start .args .h) (lent start) (start .args .rows .now)) (c .before .before .batch .ensures) _ (c .enum-told2 .given .1)
+    refused-as-lent (start .args .h) (lent start) (batchRefusals (start .args .h) (lent start) (start .args .rows .now)) (c .before .before .batch .ensures) _ (c .enum-told2 .given .1)
 
 div-change : tie.Need-div-change
 unfolding settingsOf
-div-change c = allowed-sized _ (batch-accepted _ _ (start ((c .before .before .before .before .before)) .args .rows .now) (accepts ((c .before .before .before .before .before))) .0 .allows) .dim-some
+div-change c = allowed-sized _ (batch-taken _ _ (start ((c .before .before .before .before .before)) .args .rows .now) (accepts ((c .before .before .before .before .before))) .ready .allows) .dim-some
 
 change-requires : tie.Need-change-requires
 unfolding settingsOf
 change-requires c κs =
     let start = start ((c .before .before .before .before .before)) in
     let h = start .args .h in
-    let a = batch-accepted h (lent start) (start .args .rows .now) (accepts ((c .before .before .before .before .before))) in
-    ((a .0, rows-in _ _), insertable h (lent start) (a .0) _ (c .before .before .before .before .before .before .before .before .before .before .before .before .before .before .before .before .slice-known .given) _ (a .1))
+    let a = batch-taken h (lent start) (start .args .rows .now) (accepts ((c .before .before .before .before .before))) in
+    ((a .ready, rows-in _ _), insertable h (lent start) (a .ready) _ (c .before .before .before .before .before .before .before .before .before .before .before .before .before .before .before .before .slice-known .given) _ (a .room))
 
 returns-2 : tie.Need-returns-2
 unfolding batchInserted settingsOf worked
 returns-2 c =
     let start = start ((c .before .before .before .before .before .before .before .before .before .before .before .before .before .before)) in
     let h = start .args .h in
-    done-as-ruled h (lent start) (ofBatch h (lent start) (start .args .rows .now)) (c .before .before .before .before .before .before .before .before .before .before .before .before .before .before .before .before .batch .ensures) _ (c .before .before .before .before .before .before .before .before .before .before .before .before .before .before .enum-told .given .1) (c .before .before .before .before .before .before .before .before .change .ensures)
+    done-as-ruled h (lent start) (batchRefusals h (lent start) (start .args .rows .now)) (c .before .before .before .before .before .before .before .before .before .before .before .before .before .before .before .before .batch .ensures) _ (c .before .before .before .before .before .before .before .before .before .before .before .before .before .before .enum-told .given .1) (c .before .before .before .before .before .before .before .before .change .ensures)
 
 pub insert-batch-spec : {M : Type 1} → statement M
 insert-batch-spec = tie.close (tie.spec (λ c κs. search needs) (λ c. search needs) (λ c. search needs) (λ c. search needs) (λ c. search needs) (λ c. search needs) (λ c. search needs) returns div-change change-requires (λ c. search needs) (λ c. search needs) (λ c. search needs) (λ c. search needs) returns-2)

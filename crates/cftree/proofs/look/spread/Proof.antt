@@ -2,8 +2,8 @@
 use mathlib.Core.Path.{sym, _∙_}
 use borrow.Author.Needs.{needs}
 use Rattle.cftree.specs.Looks.{unwritten, front-written}
-use Rattle.cftree.specs.Seen.{ofSpread, spread-seen}
-use Rattle.rules.specs.Calls.{lentTree, spreadWritten}
+use Rattle.cftree.specs.Seen.{spread-seen}
+use Rattle.rules.specs.Calls.{lentTree, spreadRefusals, spreadWritten}
 use Rattle.cftree.proofs.look.spread.Statement.{statement}
 use Rattle.cftree.proofs.look.spread.Tie as tie
 
@@ -11,7 +11,7 @@ returns : tie.Need-returns
 unfolding spreadWritten
 returns c =
     let a = c .before .before .before .before .before .before .before .args in
-    unwritten (ofSpread (a .h) (a .floats .now) (a .links .now) (a .out .now)) (c .before .before .spread .ensures) _ _ (c .enum-told2 .given .1)
+    unwritten (spreadRefusals (a .h) (a .floats .now) (a .links .now) (a .out .now)) (c .before .before .spread .ensures) _ _ (c .enum-told2 .given .1)
 
 write-spread-requires : tie.Need-write-spread-requires
 write-spread-requires c κs =
@@ -23,7 +23,7 @@ returns-2 : tie.Need-returns-2
 unfolding spreadWritten lentTree
 returns-2 c =
     let a = c .before .before .before .before .before .before .before .before .before .before .before .before .args in
-    front-written (ofSpread (a .h) (a .floats .now) (a .links .now) (a .out .now)) (c .before .before .before .before .before .before .before .spread .ensures) _ _ (c .before .before .before .before .before .enum-told .given .1)
+    front-written (spreadRefusals (a .h) (a .floats .now) (a .links .now) (a .out .now)) (c .before .before .before .before .before .before .before .spread .ensures) _ _ (c .before .before .before .before .before .enum-told .given .1)
     (rw (c .before .before .before .before .settings .ensures) at (c .before .before .write-spread .ensures (a .links .now)))
 
 pub spread-spec : {M : Type 1} → statement M

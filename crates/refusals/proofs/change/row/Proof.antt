@@ -4,7 +4,7 @@ use borrow.Author.Needs.{needs}
 use Rattle.rules.specs.RefusalLaws.{answer-then, answer-first, unless-refused, unless-passed}
 use Rattle.refusals.specs.Granted.{change-grants, ready-counts}
 use Rattle.refusals.specs.Lending.{lending}
-use Rattle.rules.specs.Calls.{answerOf, changeRefusals, rowRefusals, rowShapeRefusal, lentTree, Lent}
+use Rattle.rules.specs.Calls.{answerOf, changeRefusals, rowAsked, rowRefusals, rowShapeRefusal, lentTree, Lent}
 use Rattle.rules.specs.CallLaws.{Ready}
 use borrow.Author.Tests.{eq-eqb, ne-eqb}
 use Rattle.head.specs.declared.refusal.Answer.the-variants.{Accepted}
@@ -25,17 +25,18 @@ ready : (c : tie.After-enum-told) → Ready (start c .args .h) (lent (start c))
 ready c = change-grants _ _ (accepts c)
 
 returns : tie.Need-returns
+unfolding rowRefusals
 returns c = c .before .before .change .ensures ∙ answer-first _ _ (sym (c .before .before .change .ensures) ∙ c .enum-told2 .given .1)
 
 returns-2 : tie.Need-returns-2
-unfolding rowRefusals rowShapeRefusal
+unfolding rowRefusals rowAsked rowShapeRefusal
 returns-2 c = rw (c .before .before .settings .ensures) (unless-refused _ _ _ (ne-eqb _ _ (rw (c .before .before .settings .ensures) at (c .if1 .taken))) ∙ answer-then _ _ (accepts ((c .before .before .before))))
 
 full-requires : tie.Need-full-requires
 full-requires c κs = rw (c .before .before .settings .ensures) (ready-counts _ _ (ready ((c .before .before .before))))
 
 returns-3 : tie.Need-returns-3
-unfolding rowRefusals rowShapeRefusal lentTree
+unfolding rowRefusals rowAsked rowShapeRefusal lentTree
 returns-3 c =
     c .full .ensures (c .before .before .before .before .before .before .before .before .before .before .before .before .args .links .now)
     ∙ rw (c .before .before .before .settings .ensures) (unless-passed _ _ _ (eq-eqb _ _ (rw (c .before .before .before .settings .ensures) at (c .before .if1 .left))) ∙ answer-then _ _ (accepts ((c .before .before .before .before))))

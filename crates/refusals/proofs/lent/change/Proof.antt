@@ -4,15 +4,15 @@ use mathlib.Core.List.{List, _++_}
 use borrow.Author.Needs.{needs}
 use lib.ListN.{length}
 use Rattle.rules.specs.RefusalLaws.{answer-then, answer-first}
-use Rattle.refusals.specs.Granted.{create-grants, change-parts, Roomy}
+use Rattle.refusals.specs.Granted.{create-grants, change-parts}
 use Rattle.refusals.specs.Lending.{lending}
 use Rattle.head.specs.Heads.{settingsOf}
-use Rattle.rules.specs.Calls.{answerOf, roomRefusal, createRefusals, Lent, treeRefusal}
+use Rattle.rules.specs.Calls.{answerOf, roomRefusal, createRefusals, Lent, treeRefusal, lentTree}
+use Rattle.rules.specs.CallLaws.{Roomy}
 use Rattle.head.specs.declared.refusal.Refusal.{Refusal}
 use Rattle.head.specs.declared.refusal.Answer.the-variants.{Accepted}
 use Rattle.head.specs.Sizes.{scratchFloatsNeeded, scratchLinksNeeded}
 use Rattle.rules.specs.Check.{checked}
-use Rattle.rules.specs.Slices.{treeOf}
 use Rattle.refusals.proofs.lent.change.Statement.{statement}
 use Rattle.refusals.proofs.lent.change.Tie as tie
 
@@ -26,7 +26,7 @@ scratch c =
     roomRefusal (scratchFloatsNeeded s) (length (c .args .scratch .now)) ++ roomRefusal (scratchLinksNeeded s) (length (c .args .numbers .now))
 
 abbrev rest : tie.Start → List Refusal
-rest c = let s = settingsOf (c .args .h) in treeRefusal (checked s (treeOf s (c .args .h .counters) (c .args .floats .now) (c .args .links .now)))
+rest c = let h = c .args .h in treeRefusal (checked (settingsOf h) (lentTree h (c .args .floats .now) (c .args .links .now)))
 
 -- where settings and room are granted
 abbrev start : tie.After-enum-told → tie.Start
@@ -62,6 +62,7 @@ tree-check-requires : tie.Need-tree-check-requires
 tree-check-requires c κs = let g = roomy ((c .before .before .before .before .before .before)) in rw (c .before .before .before .before .before .settings .ensures) (g .sized, g .floats-room, g .links-room)
 
 returns-3 : tie.Need-returns-3
+unfolding lentTree
 returns-3 c =
     let room = c .before .before .before .room in
     let start = (c .before .before .before .before .before .before .before .before .before .before .before .before .before .before) in

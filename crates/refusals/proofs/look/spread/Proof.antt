@@ -7,7 +7,7 @@ use lib.ListN.{length}
 use Rattle.rules.specs.RefusalLaws.{answer-then, answer-first}
 use Rattle.refusals.specs.Granted.{spread-small}
 use Rattle.head.specs.Heads.{settingsOf}
-use Rattle.rules.specs.Calls.{answerOf, treeRefusals, lentTree, outputRefusal}
+use Rattle.rules.specs.Calls.{answerOf, lentTree, outputRefusal, treeRefusals, spreadAsked, spreadRefusals}
 use Rattle.arena.specs.Trees.{count-entries}
 use Rattle.head.specs.declared.refusal.Answer.the-variants.{Accepted}
 use Rattle.refusals.proofs.look.spread.Statement.{statement}
@@ -21,13 +21,14 @@ accepts : (c : tie.After-enum-told) → answerOf (treeRefusals (start c .args .h
 accepts c = sym (c .before .before .look .ensures) ∙ c .enum-told .given .1
 
 returns : tie.Need-returns
+unfolding spreadRefusals
 returns c = c .before .before .look .ensures ∙ answer-first _ _ (sym (c .before .before .look .ensures) ∙ c .enum-told2 .given .1)
 
 mul-output : tie.Need-mul-output
 mul-output c = let small = spread-small _ _ _ (accepts ((c .before))) in omega arith
 
 returns-2 : tie.Need-returns-2
-unfolding settingsOf lentTree
+unfolding settingsOf lentTree spreadRefusals spreadAsked
 returns-2 c =
     let a = c .before .before .before .before .before .before .before .before .args in
     let many = count-entries (settingsOf (a .h)) (a .h .counters) (a .floats .now) (a .links .now) in

@@ -17,19 +17,21 @@ use Rattle.rules.specs.Lists.{changeAt, occurs}
 use Rattle.rules.specs.Tree.{Tree, push, distTo, fresh, adding, withNodes, withEntries}
 use Rattle.rules.specs.Descent.{leafFor, alongPath}
 use Rattle.rules.specs.Split.{splitUp, crowned}
-use Rattle.rules.specs.Insert.{placed, grown}
+use Rattle.rules.specs.Insert.{placed, grown, rowItem}
 use Rattle.rules.specs.declared.Pair.{Pair}
-use Rattle.rules.specs.Rebuild.{Merging, renumber, dropped, withMerges, rebalanced, insertedAll}
-use Rattle.rules.specs.Refit.{route, refitted}
+use Rattle.rules.specs.Rebuild.{Merging, renumber, dropped, withMerges, rebalanced}
+use Rattle.rules.specs.Refit.{refitted}
 use Rattle.rules.specs.Check.{linked}
 use Rattle.rules.specs.Computes.{computes}
-use Rattle.laws.specs.Demand.{takerOf, taker, mergedTo, reinsertedTo, rebalancedTo, ownersIn, ownersAll, refitOwners, ownersRefit, wayUp, rowPath}
+use Rattle.laws.specs.Demand.{takerOf, taker, mergedTo, reinsertedTo, rebalancedTo, ownersIn, ownersAll, refitOwners, ownersRefit, wayUp, pathUp}
 use Rattle.bites.specs.Told.{told}
 use Rattle.bites.specs.Formed.{formed}
 use Rattle.bites.specs.Spared.{sameNumbers, kept, spared}
 use Rattle.bites.specs.Fitting.{roomy, trusted}
 use Rattle.bites.specs.Steps.{batch, owning, renumbering, refittingOwners, joining, growing, splitting, merging, rebuilding, reinserting, pouring, checking}
 use Rattle.counting.specs.Places.{placeIn}
+use Rattle.rules.specs.Route.{greedy}
+use Rattle.rules.specs.Rows.{insertedAll}
 
 -- one channel, branching 2
 abbrev with : ℕ → ℕ → Settings
@@ -75,7 +77,7 @@ batch-owns = refl
 
 -- a row that is not within the threshold of the nearest entry begins one
 joining-owns : told (joining (with 2 24) 10r 0 (Entry 0) (insertedAll (with 2 24) (0r ∷ []) (fresh f0)))
-    (0 ∷ takerOf (with 2 24) 10r (Entry 0) (insertedAll (with 2 24) (0r ∷ []) (fresh f0)) ∷ []) ≡ true
+    (0 ∷ takerOf (rowItem (with 2 24) 10r) (Entry 0) (insertedAll (with 2 24) (0r ∷ []) (fresh f0)) ∷ []) ≡ true
 unfolding computes told joining takerOf
 joining-owns = refl
 
@@ -98,7 +100,7 @@ renumbering-forms = refl
 abbrev again : List (List Float)
 again = 10r ∷ 0r ∷ 1r ∷ []
 
-refitting-forms : formed (with 2 24) again (refitted (with 2 24) again even) (refittingOwners (with 2 24) again even one-each) ≡ true
+refitting-forms : formed (with 2 24) again (refitted (with 2 24) (greedy (with 2 24)) again even) (refittingOwners (with 2 24) again even one-each) ≡ true
 unfolding computes formed sameNumbers refittingOwners ownersRefit refitOwners reinsertedTo placeIn
 refitting-forms = refl
 
@@ -117,7 +119,7 @@ merging-owns = refl
 abbrev refit-rows : List (List Float)
 refit-rows = 0r ∷ (nan ∷ []) ∷ 10r ∷ 0r ∷ 1r ∷ 0r ∷ []
 
-pouring-owns : told (withEntries (pouring (with 2 24) uneven refit-rows (blank ∷ blank ∷ blank ∷ [])) uneven) (map (route (with 2 24) uneven) refit-rows) ≡ true
+pouring-owns : told (withEntries (pouring (with 2 24) uneven refit-rows (blank ∷ blank ∷ blank ∷ [])) uneven) (map (greedy (with 2 24) uneven) refit-rows) ≡ true
 unfolding computes told pouring
 pouring-owns = refl
 
@@ -128,7 +130,7 @@ before = insertedAll (with 1 24) (0r ∷ 10r ∷ []) (fresh f0)
 abbrev over-full : Tree
 over-full =
     let l = leafFor before (λ c. distTo (with 1 24) c 20r) in
-    splitUp (with 1 24) 1 l (placed (with 1 24) 20r l (alongPath (push (with 1 24) 20r) l before))
+    splitUp (with 1 24) 1 l (placed (rowItem (with 1 24) 20r) l (alongPath (push (with 1 24) 20r) l before))
 
 splitting-links : linked (crowned (with 1 24) 2 4 (splitting (with 1 24) 2 over-full)) ≡ true
 unfolding computes splitting
@@ -138,16 +140,16 @@ splitting-links = refl
 abbrev unequal : Tree
 unequal = insertedAll (with 2 24) (0r ∷ 10r ∷ 1r ∷ 0r ∷ []) (fresh f0)
 
-off-path : occurs 0 (rowPath (with 2 24) 20r unequal) ≡ 0
-unfolding computes rowPath wayUp
+off-path : occurs 0 (pathUp unequal (leafFor unequal (λ c. distTo (with 2 24) c 20r))) ≡ 0
+unfolding computes pathUp wayUp
 off-path = refl
 
 growing-spares : spared (with 2 24) 20r unequal (growing (with 2 24) 20r unequal) ≡ true
-unfolding computes spared kept sameNumbers growing rowPath wayUp
+unfolding computes spared kept sameNumbers growing pathUp wayUp
 growing-spares = refl
 
 -- a rebuild merges at least once: three entries, and max_leaves is 2
-rebuilding-fits : leb (length ((rebuilding (with 4 2) (grown (with 4 2) 20r (insertedAll (with 4 2) (0r ∷ 10r ∷ []) (fresh f0)))) .entries)) 2 ≡ true
+rebuilding-fits : leb (length ((rebuilding (with 4 2) (grown (with 4 2) (rowItem (with 4 2) 20r) (insertedAll (with 4 2) (0r ∷ 10r ∷ []) (fresh f0)))) .entries)) 2 ≡ true
 unfolding computes rebuilding
 rebuilding-fits = refl
 

@@ -10,7 +10,7 @@ use lib.Dec.{eqb}
 use lib.ListN.{length, getD}
 use lib.Ieee.{Float}
 use Rattle.feature.specs.Summaries.{blank}
-use Rattle.feature.specs.Weights.{blank-weight, pushed-weight, merged-none, merged-copy}
+use Rattle.feature.specs.Weights.{blank-weight, pushed-weight, merged-none, merged-copy, zero-low}
 use Rattle.head.specs.declared.Settings.{Settings}
 use Rattle.rules.specs.Lists.{every, upFrom, occurs}
 use Rattle.rules.specs.Tree.{Tree, push, merge, entryAt}
@@ -66,7 +66,7 @@ single s ys i (joining m n) h = go (lt? 0 (uses m i)) (λ f. single s ys i m f) 
     go (inr o) f g =
         ap (λ e. merge s e (madeOf s ys n)) (unused s ys m (λ k. none k (same? k i)))
         ∙ ap (λ e. merge s blank e) (g (λ k. let p = h k in let q = none k (same? k i) in omega arith))
-        ∙ merged-copy (s .feature) (s .dim) blank (push s (getD ys i []) blank) 0 (omega arith) blank-weight
+        ∙ merged-copy (s .feature) (s .dim) blank (push s (getD ys i []) blank) 0 (omega arith) (zero-low blank-weight)
         (pushed-weight (s .feature) (s .dim) blank (getD ys i []) 0 (omega arith) blank-weight)
       where
         none : (k : ℕ) → (k ≡ i) ⊎ (k ≢ i) → uses m k ≡ 0

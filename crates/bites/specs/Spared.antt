@@ -10,9 +10,10 @@ use lib.ListN.{length}
 use lib.Ieee.{Float}
 use Rattle.head.specs.declared.Settings.{Settings}
 use Rattle.rules.specs.Lists.{every, upFrom, occurs}
-use Rattle.rules.specs.Tree.{Node, Tree, nodeAt}
+use Rattle.rules.specs.Tree.{Node, Tree, nodeAt, distTo}
 use Rattle.rules.specs.Histories.{summarySeen}
-use Rattle.laws.specs.Demand.{rowPath, Same, OnPath, Local}
+use Rattle.laws.specs.Demand.{pathUp, Same, OnPath, RowLocal}
+use Rattle.rules.specs.Descent.{leafFor}
 
 unfoldable pub sameNumbers : List ℕ → List ℕ → Bool
 sameNumbers [] [] = true
@@ -26,7 +27,7 @@ kept s n = cond (n .leaf) 1 0 ∷ length (n .list) ∷ (n .list ++ summarySeen s
 
 -- each node of t is on the row's path, or has in u the kind, list and summary that it had
 unfoldable pub spared : Settings → List Float → Tree → Tree → Bool
-spared s x t u = every (λ q. ltb 0 (occurs q (rowPath s x t)) || sameNumbers (kept s (nodeAt u q)) (kept s (nodeAt t q))) (upFrom (length (t .nodes)) 0)
+spared s x t u = every (λ q. ltb 0 (occurs q (pathUp t (leafFor t (λ c. distTo s c x)))) || sameNumbers (kept s (nodeAt u q)) (kept s (nodeAt t q))) (upFrom (length (t .nodes)) 0)
 
 pub numbers-same : (l : List ℕ) → sameNumbers l l ≡ true
 unfolding sameNumbers
@@ -45,20 +46,20 @@ kept-same s t u q e =
     ∙ ap (λ ks. cond (nodeAt t q .leaf) 1 0 ∷ length ks ∷ (ks ++ summarySeen s (nodeAt u q .summary))) (e .list)
     ∙ ap (λ c. cond (nodeAt t q .leaf) 1 0 ∷ length (nodeAt t q .list) ∷ (nodeAt t q .list ++ summarySeen s c)) (e .summary)
 
-pub local-spared : (s : Settings) (x : List Float) (t u : Tree) → Local s x t u → spared s x t u ≡ true
+pub local-spared : (s : Settings) (x : List Float) (t u : Tree) → RowLocal s x t u → spared s x t u ≡ true
 unfolding spared
 local-spared s x t u l =
-    every-below (λ q. ltb 0 (occurs q (rowPath s x t)) || sameNumbers (kept s (nodeAt u q)) (kept s (nodeAt t q))) (length (t .nodes)) 0 each
+    every-below (λ q. ltb 0 (occurs q (pathUp t (leafFor t (λ c. distTo s c x)))) || sameNumbers (kept s (nodeAt u q)) (kept s (nodeAt t q))) (length (t .nodes)) 0 each
   where
-    alike : (q : ℕ) → Same (OnPath s x t) (length (t .nodes)) t u q → sameNumbers (kept s (nodeAt u q)) (kept s (nodeAt t q)) ≡ true
+    alike : (q : ℕ) → Same (OnPath t (leafFor t (λ c. distTo s c x))) (length (t .nodes)) t u q → sameNumbers (kept s (nodeAt u q)) (kept s (nodeAt t q)) ≡ true
     alike q e = ap (λ l. sameNumbers l (kept s (nodeAt t q))) (kept-same s t u q e) ∙ numbers-same (kept s (nodeAt t q))
 
-    each : (q : ℕ) → q < 0 + length (t .nodes) → (ltb 0 (occurs q (rowPath s x t)) || sameNumbers (kept s (nodeAt u q)) (kept s (nodeAt t q))) ≡ true
-    each q h = go (ltb 0 (occurs q (rowPath s x t))) refl
+    each : (q : ℕ) → q < 0 + length (t .nodes) → (ltb 0 (occurs q (pathUp t (leafFor t (λ c. distTo s c x)))) || sameNumbers (kept s (nodeAt u q)) (kept s (nodeAt t q))) ≡ true
+    each q h = go (ltb 0 (occurs q (pathUp t (leafFor t (λ c. distTo s c x))))) refl
       where
-        go : (b : Bool) → ltb 0 (occurs q (rowPath s x t)) ≡ b → (b || sameNumbers (kept s (nodeAt u q)) (kept s (nodeAt t q))) ≡ true
+        go : (b : Bool) → ltb 0 (occurs q (pathUp t (leafFor t (λ c. distTo s c x)))) ≡ b → (b || sameNumbers (kept s (nodeAt u q)) (kept s (nodeAt t q))) ≡ true
         go true e = refl
-        go false e = alike q (l .node q (omega arith) (λ o. off e (lt→ltb 0 (occurs q (rowPath s x t)) o)))
+        go false e = alike q (l .node q (omega arith) (λ o. off e (lt→ltb 0 (occurs q (pathUp t (leafFor t (λ c. distTo s c x)))) o)))
           where
-            off : ltb 0 (occurs q (rowPath s x t)) ≡ false → T (ltb 0 (occurs q (rowPath s x t))) → ⊥
+            off : ltb 0 (occurs q (pathUp t (leafFor t (λ c. distTo s c x)))) ≡ false → T (ltb 0 (occurs q (pathUp t (leafFor t (λ c. distTo s c x))))) → ⊥
             off e k = subst T e k

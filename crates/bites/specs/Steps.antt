@@ -15,14 +15,15 @@ use Rattle.rules.specs.declared.Pair.{Pair}
 use Rattle.rules.specs.Lists.{changeAt, snoc, keep, flip}
 use Rattle.rules.specs.Tree.{Node, Tree, push, distTo, blankNode, nodeAt, entryAt, withNodes}
 use Rattle.rules.specs.Split.{stays, half, split}
-use Rattle.rules.specs.Insert.{absorbed, absorbedOrBegun, grown}
+use Rattle.rules.specs.Insert.{absorbed, absorbedOrBegun, grown, rowItem}
 use Rattle.rules.specs.Reinsert.{collected, cleared, replacedAll, reinserted}
 use Rattle.rules.specs.Refold.{refolded}
-use Rattle.rules.specs.Rebuild.{Merging, mergeOne, counted, rebuilt, inserted, insertedAll}
-use Rattle.rules.specs.Refit.{route}
+use Rattle.rules.specs.Rebuild.{Merging, mergeOne, counted, rebuilt}
 use Rattle.rules.specs.Check.{checked}
 use Rattle.counting.specs.Places.{placeIn}
 use Rattle.laws.specs.Demand.{taker, rebalancedTo, ownersIn, ownersRefit}
+use Rattle.rules.specs.Route.{greedy}
+use Rattle.rules.specs.Rows.{inserted, insertedAll}
 
 unfoldable pub batch : Settings → List (List Float) → Tree → Tree
 batch s [] t = t
@@ -37,14 +38,14 @@ unfoldable pub renumbering : Settings → Tree → ℕ → ℕ
 renumbering s t c = rebalancedTo s true t c
 
 unfoldable pub refittingOwners : Settings → List (List Float) → Tree → List ℕ → List ℕ
-refittingOwners s xs t a = ownersRefit s xs t a
+refittingOwners s xs t a = ownersRefit s (greedy s) xs t a
 
 unfoldable pub joining : Settings → List Float → ℕ → Nearest → Tree → Tree
-joining s x l Nothing t = absorbedOrBegun s x l Nothing t
-joining s x l (Entry e) t = absorbedOrBegun s x l (Entry e) t
+joining s x l Nothing t = absorbedOrBegun (rowItem s x) l Nothing t
+joining s x l (Entry e) t = absorbedOrBegun (rowItem s x) l (Entry e) t
 
 unfoldable pub growing : Settings → List Float → Tree → Tree
-growing s x t = grown s x t
+growing s x t = grown s (rowItem s x) t
 
 unfoldable pub splitting : Settings → ℕ → Tree → Tree
 splitting s i t = split s i t
@@ -60,7 +61,7 @@ reinserting s t = reinserted s t
 
 unfoldable pub pouring : Settings → Tree → List (List Float) → List Summary → List Summary
 pouring s t [] es = es
-pouring s t (x ∷ xs) es = pouring s t xs (changeAt (push s x) (route s t x) es)
+pouring s t (x ∷ xs) es = pouring s t xs (changeAt (push s x) (greedy s t x) es)
 
 unfoldable pub checking : Settings → Tree → Verdict
 checking s t = checked s t

@@ -7,8 +7,8 @@ use borrow.Author.Tests.{eq-eqb}
 use lib.Dec.{eqb}
 use lib.ListN.{length}
 use Rattle.rules.specs.Lists.{every, upFrom, occurs}
-use Rattle.rules.specs.Tree.{Tree, entryAt}
-use Rattle.rules.specs.Check.{rowsIn, totalOf}
+use Rattle.rules.specs.Tree.{Tree, entryAt, rowsIn}
+use Rattle.rules.specs.Check.{totalOf}
 use Rattle.laws.specs.Invariant.Sound.{entryWeight}
 use Rattle.laws.specs.Ownership.Owned.{Owned}
 use Rattle.laws.specs.Ownership.Account.{owned-sum}

@@ -1,5 +1,5 @@
 // The way of an item into the tree: down to a leaf, the search in it, and the path back up.
-pub mod item;
+pub mod form;
 pub mod leaf;
 pub mod path;
 
@@ -12,8 +12,8 @@ ghost use Rattle.rules.specs.Slices.{treeOf};
 ghost use Rattle.rules.specs.Descent.{closest, leafFor};
 ghost use Rattle.arena.specs.Trees.{AnyLinks, Floats, Links, ChildrenIn};
 ghost use Rattle.laws.specs.ForCode.{Sure};
-ghost use Rattle.descent.specs.Items.{Fits, distanceTo};
-use crate::item::Item;
+ghost use Rattle.descent.specs.Forms.{FormFits, itemOf};
+use crate::form::Form;
 use arena::links;
 use head::Counters;
 use head::Settings;
@@ -24,19 +24,19 @@ pub fn nearest_child(
     n: Counters,
     floats: &[f64],
     list: &[u32],
-    item: Item,
+    form: Form,
     x: &[f64],
 ) -> usize
-    requires { ⌜ Floats s n (length (now floats)) × Fits s item (now x) × (0 < length (now list)) × ChildrenIn n false (now list) ⌝ }
-    ensures { λ r. ⌜ AnyLinks s n (now (floats .entry)) (λ t. r ≡ closest (λ c. distanceTo s item (now (x .entry)) (nodeAt t c .summary)) (now (list .entry))) ⌝ }
+    requires { ⌜ Floats s n (length (now floats)) × FormFits s form (now x) × (0 < length (now list)) × ChildrenIn n false (now list) ⌝ }
+    ensures { λ r. ⌜ AnyLinks s n (now (floats .entry)) (λ t. r ≡ closest (λ c. itemOf s form (now (x .entry)) .near (nodeAt t c .summary)) (now (list .entry))) ⌝ }
     ensures { λ r. ⌜ r < n .nodes ⌝ }
 {
     let mut best = list[0] as usize;
-    let mut least = item::to_node(s, n, floats, best, item, x);
+    let mut least = form::to_node(s, n, floats, best, form, x);
     let mut k = 1;
     while k < list.len() {
         let c = list[k] as usize;
-        let d = item::to_node(s, n, floats, c, item, x);
+        let d = form::to_node(s, n, floats, c, form, x);
         if d < least {
             least = d;
             best = c;
@@ -47,10 +47,10 @@ pub fn nearest_child(
 }
 
 // From the root down to the leaf that an item belongs to.
-fn go_down(s: Settings, n: Counters, floats: &[f64], links: &[u32], item: Item, x: &[f64]) -> usize
-    requires { ⌜ Floats s n (length (now floats)) × Links s n (length (now links)) × Fits s item (now x) ⌝ }
+fn go_down(s: Settings, n: Counters, floats: &[f64], links: &[u32], form: Form, x: &[f64]) -> usize
+    requires { ⌜ Floats s n (length (now floats)) × Links s n (length (now links)) × FormFits s form (now x) ⌝ }
     requires { ⌜ Sure s (treeOf s n (now floats) (now links)) ⌝ }
-    ensures { λ r. ⌜ r ≡ leafFor (treeOf s n (now (floats .entry)) (now (links .entry))) (distanceTo s item (now (x .entry))) ⌝ }
+    ensures { λ r. ⌜ r ≡ leafFor (treeOf s n (now (floats .entry)) (now (links .entry))) (itemOf s form (now (x .entry)) .near) ⌝ }
     ensures { λ r. ⌜ r < n .nodes ⌝ }
 {
     let mut i = n.root;
@@ -59,7 +59,7 @@ fn go_down(s: Settings, n: Counters, floats: &[f64], links: &[u32], item: Item, 
         if links::is_leaf(s, n, links, i) {
             return i;
         }
-        i = nearest_child(s, n, floats, links::list(s, n, links, i), item, x);
+        i = nearest_child(s, n, floats, links::list(s, n, links, i), form, x);
         left -= 1;
     }
     i
@@ -71,13 +71,13 @@ pub fn descend(
     n: Counters,
     floats: &[f64],
     links: &[u32],
-    item: Item,
+    form: Form,
     x: &[f64],
 ) -> usize
-    requires { ⌜ Floats s n (length (now floats)) × Links s n (length (now links)) × Fits s item (now x) ⌝ }
+    requires { ⌜ Floats s n (length (now floats)) × Links s n (length (now links)) × FormFits s form (now x) ⌝ }
     requires { ⌜ Sure s (treeOf s n (now floats) (now links)) ⌝ }
-    ensures { λ r. ⌜ r ≡ leafFor (treeOf s n (now (floats .entry)) (now (links .entry))) (distanceTo s item (now (x .entry))) ⌝ }
+    ensures { λ r. ⌜ r ≡ leafFor (treeOf s n (now (floats .entry)) (now (links .entry))) (itemOf s form (now (x .entry)) .near) ⌝ }
     ensures { λ r. ⌜ r < n .nodes ⌝ }
 {
-    go_down(s, n, &floats[0..], &links[0..], item, &x[0..])
+    go_down(s, n, &floats[0..], &links[0..], form, &x[0..])
 }

@@ -6,9 +6,9 @@ ghost use Rattle.rules.specs.Slices.{treeOf};
 ghost use Rattle.rules.specs.Descent.{alongPath};
 ghost use Rattle.arena.specs.Trees.{Floats, Links};
 ghost use Rattle.laws.specs.ForCode.{Sure};
-ghost use Rattle.descent.specs.Items.{Fits, taking};
-use crate::item;
-use crate::item::Item;
+ghost use Rattle.descent.specs.Forms.{FormFits, itemOf};
+use crate::form;
+use crate::form::Form;
 use arena::links;
 use head::Counters;
 use head::Settings;
@@ -21,19 +21,19 @@ pub fn feed_path(
     floats: &mut [f64],
     links: &[u32],
     leaf: usize,
-    item: Item,
+    form: Form,
     x: &[f64],
 )
-    requires { ⌜ Floats s n (length (now floats)) × Links s n (length (now links)) × Fits s item (now x) ⌝ }
+    requires { ⌜ Floats s n (length (now floats)) × Links s n (length (now links)) × FormFits s form (now x) ⌝ }
     requires { ⌜ Sure s (treeOf s n (now floats) (now links)) × (leaf < n .nodes) ⌝ }
     ensures { λ _. ⌜
         treeOf s n (now (floats .exit)) (now (links .entry))
-        ≡ alongPath (taking s item (now (x .entry))) leaf (treeOf s n (now (floats .entry)) (now (links .entry))) ⌝ }
+        ≡ alongPath (itemOf s form (now (x .entry)) .taken) leaf (treeOf s n (now (floats .entry)) (now (links .entry))) ⌝ }
 {
     let mut i = leaf;
     let mut left = n.nodes;
     while left > 0 {
-        item::feed(s, n, floats, i, item, x);
+        form::feed(s, n, floats, i, form, x);
         let Parent::Node(p) = links::parent(s, n, links, i) else {
             return;
         };

@@ -9,6 +9,7 @@ use Rattle.laws.specs.Demand.{rowsIn, rowsRefit, after, ownersIn, ownersAll, ow
 use Rattle.boundary.specs.declared.HeadNumbers.{HeadNumbers}
 use Rattle.boundary.specs.Numbers.{headOf, headNumbers, zero-accepts}
 use Rattle.export.specs.Given.{LeftNumbers, leftNumbers, MadeNumbers, madeNumbers}
+use Rattle.rules.specs.Route.{greedy}
 
 -- the calls so far, by the numbers that the last one gave back
 abbrev pub Chain : HeadNumbers → List Float → List ℕ → List (List Float) → List ℕ → Type 0
@@ -46,5 +47,5 @@ module _ (n : HeadNumbers) (l : Lent) {ys : List (List Float)} {a : List ℕ} (c
   pub refit-chain : (xs : List Float) → o ≡ leftNumbers (batchRefitted (headOf n) l xs)
       → let answer = batchRefitted (headOf n) l xs .answer in
       Behind o (after answer (rowsRefit (rowsIn (headOf n) xs) (lentTree (headOf n) (l .floats) (l .links)) ys) ys)
-      (after answer (ownersRefit (settingsOf (headOf n)) (rowsIn (headOf n) xs) (lentTree (headOf n) (l .floats) (l .links)) a) a)
+      (after answer (ownersRefit (settingsOf (headOf n)) (greedy (settingsOf (headOf n))) (rowsIn (headOf n) xs) (lentTree (headOf n) (l .floats) (l .links)) a) a)
   refit-chain xs e = let u = batchRefitted (headOf n) l xs in chained u (refitAll l xs u refl c) o e

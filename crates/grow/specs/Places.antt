@@ -16,7 +16,7 @@ use Rattle.head.specs.Counting.{countEntries}
 use Rattle.rules.specs.Tree.{Tree, push, distTo, absTo, nodeAt, entryAt, adding, withNodes, withEntries}
 use Rattle.rules.specs.Slices.{treeOf}
 use Rattle.rules.specs.Descent.{searched}
-use Rattle.rules.specs.Insert.{begun, absorbed, absorbs, absorbedOrBegun, placed}
+use Rattle.rules.specs.Insert.{begun, absorbed, absorbs, absorbedOrBegun, placed, rowItem}
 use Rattle.rules.specs.declared.Nearest.{Nearest}
 use Rattle.rules.specs.declared.Nearest.the-variants.{Entry, Nothing}
 use Rattle.arena.specs.Trees.{AnyFloats, Floats, Links, ChildrenIn, onNode, onEntry, withEntry, floats-entries, links-entries, count-entries}
@@ -64,7 +64,7 @@ module _ (s : Settings) (n r : Counters) (e : r ≡ countEntries (n .entries + 1
 -- ---- whether an entry absorbs a row, by the distance d that was worked out
 
 pub absorbs-is : (s : Settings) (n : Counters) (fs : List Float) (ls : List ℕ) (x : List Float) (e : ℕ) {d : Float}
-    → d ≡ absTo s (entryAt (treeOf s n fs ls) e) x → le d (n .running .threshold) ≡ absorbs s x e (treeOf s n fs ls)
+    → d ≡ absTo s (entryAt (treeOf s n fs ls) e) x → le d (n .running .threshold) ≡ absorbs (rowItem s x) e (treeOf s n fs ls)
 unfolding absorbs treeOf
 absorbs-is s n fs ls x e q = rw q
 
@@ -72,15 +72,15 @@ absorbs-is s n fs ls x e q = rw q
 
 module _ (s : Settings) (x : List Float) (leaf : ℕ) (t : Tree) {u : Tree} {near : Nearest}
     (q : near ≡ searched (λ e. distTo s (entryAt t e) x) (nodeAt t leaf .list)) where
-  pub placed-nothing : near ≡ Nothing → u ≡ begun leaf (push s x blank) t → u ≡ placed s x leaf t
+  pub placed-nothing : near ≡ Nothing → u ≡ begun leaf (push s x blank) t → u ≡ placed (rowItem s x) leaf t
   unfolding placed absorbedOrBegun
   placed-nothing o h = h ∙ rw (sym q, o)
 
-  module _ {e : ℕ} {b : _} (o : near ≡ Entry e) (a : b ≡ absorbs s x e t) where
-    pub placed-absorbed : b ≡ true → u ≡ onEntry (push s x) e t → u ≡ placed s x leaf t
+  module _ {e : ℕ} {b : _} (o : near ≡ Entry e) (a : b ≡ absorbs (rowItem s x) e t) where
+    pub placed-absorbed : b ≡ true → u ≡ onEntry (push s x) e t → u ≡ placed (rowItem s x) leaf t
     unfolding placed absorbedOrBegun absorbed onEntry
     placed-absorbed y h = h ∙ rw (sym q, o, sym a, y)
 
-    pub placed-begun : b ≡ false → u ≡ begun leaf (push s x blank) t → u ≡ placed s x leaf t
+    pub placed-begun : b ≡ false → u ≡ begun leaf (push s x blank) t → u ≡ placed (rowItem s x) leaf t
     unfolding placed absorbedOrBegun
     placed-begun y h = h ∙ rw (sym q, o, sym a, y)

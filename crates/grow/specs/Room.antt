@@ -11,18 +11,18 @@ use Rattle.feature.specs.declared.Summary.{Summary}
 use Rattle.head.specs.declared.Settings.{Settings}
 use Rattle.head.specs.declared.Counters.{Counters}
 use Rattle.head.specs.Sizes.{entryCap, blockWidth}
-use Rattle.rules.specs.Tree.{Tree, push, merge, distTo, distBetween, nodeAt, cap}
+use Rattle.rules.specs.Tree.{Tree, push, merge, distTo, distBetween, nodeAt, cap, rowsIn}
 use Rattle.rules.specs.Slices.{treeOf}
 use Rattle.rules.specs.Descent.{leafFor, alongPath}
 use Rattle.rules.specs.Split.{settled}
-use Rattle.rules.specs.Insert.{begun, placed, grownAt, grown}
+use Rattle.rules.specs.Insert.{begun, absorbedOrBegun, placed, grownAt, grown, rowItem, summaryItem}
 use Rattle.rules.specs.Reinsert.{replaced}
-use Rattle.laws.specs.Invariant.Sound.{caps-of}
-use Rattle.laws.specs.Invariant.Weights.{Exactly}
+use Rattle.laws.specs.Invariant.Weights.{IsExact}
 use Rattle.laws.specs.Inserting.Grown.{path-leaf}
-use Rattle.laws.specs.Inserting.First.{Holding, Ready, row-placed, entry-placed, ready-holds}
+use Rattle.laws.specs.Inserting.First.{Holding, leaf-of}
+use Rattle.laws.specs.Inserting.Items.{row-weighty, summary-weighty, item-placed, found}
 use Rattle.laws.specs.Check.Both.{AtRest}
-use Rattle.laws.specs.ForCode.{Sure, sure-of, leaf-of}
+use Rattle.laws.specs.ForCode.{Sure, sure-of}
 use Rattle.arena.specs.Trees.{Floats, count-nodes, count-entries}
 use Rattle.listed.specs.Sure.{children-in, path-sure}
 use Rattle.split.specs.Rising.{Rising, rising-placed}
@@ -35,14 +35,13 @@ pub record Growable (s : Settings) (t : Tree) : Type 0 where
   pub few : rows < most
   pub room : length (t .entries) ≤ s .«max_leaves»
 
--- a tree that is ready for the summary e, of d rows, with room for an entry more
+-- a tree that holds so many rows, with room for those of the summary e, one at least, and for an entry more
 pub record Placeable (s : Settings) (t : Tree) (e : Summary) : Type 0 where
   pub total : ℕ
-  pub rows : ℕ
-  pub ready : Ready s t total
-  pub exact : Exactly e rows
-  pub some : 1 ≤ rows
-  pub few : total + rows ≤ most
+  pub holds : Holding s t total
+  pub exact : IsExact e
+  pub some : 1 ≤ rowsIn e
+  pub few : total + rowsIn e ≤ most
   pub room : length (t .entries) < entryCap s
 
 -- a tree between calls takes a row more
@@ -53,7 +52,7 @@ pub growable-sure : (s : Settings) (t : Tree) → Growable s t → Sure s t
 growable-sure s t g = sure-of s t (g .rows) (g .holds)
 
 pub placeable-sure : (s : Settings) (t : Tree) (e : Summary) → Placeable s t e → Sure s t
-placeable-sure s t e g = sure-of s t (g .total) (ready-holds s t (g .total) (g .ready))
+placeable-sure s t e g = sure-of s t (g .total) (g .holds)
 
 -- ---- the leaf that a descent by f finds, once the way up from it is changed by F
 
@@ -94,13 +93,16 @@ module _ (s : Settings) (n : Counters) (fs gs : List Float) (ls : List ℕ) (x :
   row-place h e = place s n fs gs ls (g .rows) leaf (λ c. distTo s c x) (push s x) (g .holds) l h e (omega (arith, g .room))
 
   module _ (m : Counters) (hs : List Float) (ks : List ℕ) (e : treeOf s n gs ls ≡ alongPath (push s x) leaf (treeOf s n fs ls))
-      (p : treeOf s m hs ks ≡ placed s x leaf (treeOf s n gs ls)) where
+      (p : treeOf s m hs ks ≡ placed (rowItem s x) leaf (treeOf s n gs ls)) where
     pub row-rising : Floats s m (length hs) → Rising s (m .nodes) m leaf (treeOf s m hs ks)
+    unfolding placed found
     row-rising f =
-        let q = row-placed s x (treeOf s n fs ls) (g .rows) (caps-of (f .sized)) (g .holds) (g .few) in
+        let t = treeOf s n fs ls in
+        let (here, kind) = leaf-of s t (g .rows) (λ c. distTo s c x) (g .holds) in
+        let q = item-placed (rowItem s x) (row-weighty s x) true (leafFor t (λ c. distTo s c x)) t (g .rows) (g .holds) here kind (omega (arith, g .few)) in
         rw l (rising-placed s m hs ks f (q .1) (p ∙ rw (e, l)))
 
-    pub grown-is : {u : Tree} → u ≡ settled s leaf (treeOf s m hs ks) → u ≡ grown s x (treeOf s n fs ls)
+    pub grown-is : {u : Tree} → u ≡ settled s leaf (treeOf s m hs ks) → u ≡ grown s (rowItem s x) (treeOf s n fs ls)
     unfolding grown grownAt
     grown-is q = q ∙ rw (p, e, l)
 
@@ -110,13 +112,17 @@ module _ (s : Settings) (n : Counters) (fs gs : List Float) (ls : List ℕ) (c :
     (l : leaf ≡ leafFor (treeOf s n fs ls) (λ d. distBetween s d c)) where
   pub entry-place : leaf < n .nodes → treeOf s n gs ls ≡ alongPath (λ d. merge s d c) leaf (treeOf s n fs ls) → Place s n leaf (treeOf s n gs ls)
   entry-place h e =
-      place s n fs gs ls (g .total) leaf (λ d. distBetween s d c) (λ d. merge s d c) (ready-holds s (treeOf s n fs ls) (g .total) (g .ready)) l h e (g .room)
+      place s n fs gs ls (g .total) leaf (λ d. distBetween s d c) (λ d. merge s d c) (g .holds) l h e (g .room)
 
   module _ (m : Counters) (hs : List Float) (ks : List ℕ) (e : treeOf s n gs ls ≡ alongPath (λ d. merge s d c) leaf (treeOf s n fs ls))
       (p : treeOf s m hs ks ≡ begun leaf c (treeOf s n gs ls)) where
     pub entry-rising : Floats s m (length hs) → Rising s (m .nodes) m leaf (treeOf s m hs ks)
+    unfolding found absorbedOrBegun
     entry-rising f =
-        let q = entry-placed s c (treeOf s n fs ls) (g .rows) (g .total) (g .ready) (g .exact) (g .some) (g .few) in
+        let t = treeOf s n fs ls in
+        let i = summaryItem s c in
+        let (here, kind) = leaf-of s t (g .total) (i .near) (g .holds) in
+        let q = item-placed i (summary-weighty s c (g .exact) (g .some)) false (leafFor t (i .near)) t (g .total) (g .holds) here kind (g .few) in
         rw l (rising-placed s m hs ks f (q .1) (p ∙ rw (e, l)))
 
     pub replaced-is : {u : Tree} → u ≡ settled s leaf (treeOf s m hs ks) → u ≡ replaced s c (treeOf s n fs ls)

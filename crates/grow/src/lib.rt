@@ -8,7 +8,7 @@ ghost use Rattle.head.specs.Counting.{countEntries};
 ghost use Rattle.rules.specs.Tree.{nodeAt};
 ghost use Rattle.rules.specs.Slices.{summaryIn, treeOf};
 ghost use Rattle.rules.specs.Split.{settled};
-ghost use Rattle.rules.specs.Insert.{begun, absorbs, placed, grown};
+ghost use Rattle.rules.specs.Insert.{rowItem, begun, absorbs, placed, grown};
 ghost use Rattle.rules.specs.Reinsert.{replaced};
 ghost use Rattle.stretch.specs.Slots.{Slot};
 ghost use Rattle.arena.specs.Trees.{AnyLinks, AnyFloats, Floats, Links};
@@ -18,8 +18,8 @@ ghost use Rattle.grow.specs.Room.{Growable, Placeable};
 use arena::entries;
 use arena::links;
 use descent::descend;
-use descent::item;
-use descent::item::Item;
+use descent::form;
+use descent::form::Form;
 use descent::leaf::nearest_in_leaf;
 use descent::path::feed_path;
 use feature::Summary;
@@ -53,7 +53,7 @@ pub fn begin(
 // Whether entry e absorbs a row: `abs` within the threshold.
 fn absorbs(s: Settings, n: Counters, floats: &[f64], e: usize, row: &[f64]) -> bool
     requires { ⌜ Floats s n (length (now floats)) × (e < n .entries) × (s .dim ≤ length (now row)) ⌝ }
-    ensures { λ r. ⌜ AnyLinks s n (now (floats .entry)) (λ t. r ≡ absorbs s (now (row .entry)) e t) ⌝ }
+    ensures { λ r. ⌜ AnyLinks s n (now (floats .entry)) (λ t. r ≡ absorbs (rowItem s (now (row .entry))) e t) ⌝ }
 {
     let abs = s.abs;
     entries::to_row(s, n, floats, e, abs, row) <= n.running.threshold
@@ -72,17 +72,17 @@ fn place(
     requires { ⌜ Place s n leaf (treeOf s n (now floats) (now links)) ⌝ }
     ensures { λ r. ⌜ Floats s r (length (now (floats .entry))) × Links s r (length (now (links .entry))) ⌝ }
     ensures { λ r. ⌜
-        treeOf s r (now (floats .exit)) (now (links .exit)) ≡ placed s (now (row .entry)) leaf (treeOf s n (now (floats .entry)) (now (links .entry))) ⌝ }
+        treeOf s r (now (floats .exit)) (now (links .exit)) ≡ placed (rowItem s (now (row .entry))) leaf (treeOf s n (now (floats .entry)) (now (links .entry))) ⌝ }
 {
     let near = nearest_in_leaf(s, n, floats, links::list(s, n, links, leaf), row);
     let Nearest::Entry(e) = near else {
-        return begin(s, n, floats, links, leaf, item::alone(s, Item::Row, row));
+        return begin(s, n, floats, links, leaf, form::alone(s, Form::Row, row));
     };
     if absorbs(s, n, floats, e, row) {
         entries::push(s, n, floats, e, row);
         return n;
     }
-    begin(s, n, floats, links, leaf, item::alone(s, Item::Row, row))
+    begin(s, n, floats, links, leaf, form::alone(s, Form::Row, row))
 }
 
 // Nodes over their caps split, from node i up; most often none is.
@@ -111,10 +111,10 @@ pub fn grow(
     requires { ⌜ Growable s (treeOf s n (now floats) (now links)) ⌝ }
     ensures { λ r. ⌜ Floats s r (length (now (floats .entry))) × Links s r (length (now (links .entry))) ⌝ }
     ensures { λ r. ⌜
-        treeOf s r (now (floats .exit)) (now (links .exit)) ≡ grown s (now (row .entry)) (treeOf s n (now (floats .entry)) (now (links .entry))) ⌝ }
+        treeOf s r (now (floats .exit)) (now (links .exit)) ≡ grown s (rowItem s (now (row .entry))) (treeOf s n (now (floats .entry)) (now (links .entry))) ⌝ }
 {
-    let leaf = descend(s, n, floats, links, Item::Row, row);
-    feed_path(s, n, floats, links, leaf, Item::Row, row);
+    let leaf = descend(s, n, floats, links, Form::Row, row);
+    feed_path(s, n, floats, links, leaf, Form::Row, row);
     let m = place(s, n, floats, links, leaf, row);
     settle(s, m, floats, links, leaf)
 }
@@ -134,8 +134,8 @@ pub fn replace(
         treeOf s r (now (floats .exit)) (now (links .exit))
         ≡ replaced s (summaryIn s (now (x .entry))) (treeOf s n (now (floats .entry)) (now (links .entry))) ⌝ }
 {
-    let leaf = descend(s, n, floats, links, Item::Slot, x);
-    feed_path(s, n, floats, links, leaf, Item::Slot, x);
+    let leaf = descend(s, n, floats, links, Form::Slot, x);
+    feed_path(s, n, floats, links, leaf, Form::Slot, x);
     let m = begin(s, n, floats, links, leaf, slot::load(s, x));
     split_up(s, m, floats, links, leaf)
 }

@@ -9,9 +9,9 @@ use Rattle.head.specs.declared.Settings.{Settings}
 use Rattle.head.specs.Limits.{Sized}
 use Rattle.rules.specs.Lists.{rowsOf}
 use Rattle.rules.specs.Tree.{Tree}
-use Rattle.rules.specs.Rebuild.{inserted, insertedAll}
 use Rattle.rows.specs.Rows.{rowOf, rowsFrom, rows-all, rows-next, rows-none}
 use Rattle.insert.specs.Resting.{Resting, rest-next}
+use Rattle.rules.specs.Rows.{inserted, insertedAll}
 
 -- k of count rows are in the tree u, which was t
 pub record Batch (s : Settings) (xs : List Float) (count : ℕ) (t : Tree) (k : ℕ) (u : Tree) : Type 0 where

@@ -11,16 +11,16 @@ use Rattle.head.specs.declared.Settings.{Settings}
 use Rattle.head.specs.Limits.{Sized}
 use Rattle.head.specs.Sizes.{entryCap}
 use Rattle.rules.specs.Tree.{Tree}
-use Rattle.rules.specs.Insert.{grown}
-use Rattle.rules.specs.Rebuild.{rebuilt, inserted}
+use Rattle.rules.specs.Insert.{grown, rowItem}
+use Rattle.rules.specs.Rebuild.{rebuilt}
 use Rattle.laws.specs.Running.{grown-running, Below}
 use Rattle.laws.specs.Invariant.Sound.{caps-of}
-use Rattle.laws.specs.Inserting.First.{grown-holds}
-use Rattle.laws.specs.Room.Kept.{one-more}
 use Rattle.laws.specs.Check.Both.{AtRest}
 use Rattle.laws.specs.Runs.Calls.{row-rests}
 use Rattle.grow.specs.Room.{Growable, rest-growable}
 use Rattle.rebuild.specs.Rebuilding.{Rebuildable}
+use Rattle.laws.specs.Inserting.Items.{one-more, grown-holds}
+use Rattle.rules.specs.Rows.{inserted}
 
 pub record Resting (s : Settings) (more : ℕ) (t : Tree) : Type 0 where
   pub rows : ℕ
@@ -39,17 +39,17 @@ module _ (s : Settings) (x : List Float) (t : Tree) where
     rest-grows = rest-growable s t (r .rows) (r .rests) some-room
 
     -- one entry over M: a tree to rebuild
-    pub rest-rebuilds : Sized s → s .«max_leaves» < length (grown s x t .entries) → Rebuildable s (grown s x t)
+    pub rest-rebuilds : Sized s → s .«max_leaves» < length (grown s (rowItem s x) t .entries) → Rebuildable s (grown s (rowItem s x) t)
     unfolding entryCap
     rest-rebuilds z h =
-        let one = one-more s x t in
+        let one = one-more s (rowItem s x) t in
         let few = r .rests .few in
         record {
           rows = suc (r .rows);
           whole = grown-holds s x t (r .rows) (caps-of z) (r .rests .holds) some-room;
           more = h;
           few = omega arith;
-          below = subst (Below s) (sym (grown-running s x t)) (r .rests .below);
+          below = subst (Below s) (sym (grown-running s (rowItem s x) t)) (r .rests .below);
         }
 
     pub rest-next : Sized s → Resting s more (inserted s x t)
@@ -57,10 +57,10 @@ module _ (s : Settings) (x : List Float) (t : Tree) where
         let room = r .room in
         record { rows = suc (r .rows); rests = row-rests z x t (r .rows) (r .rests) some-room; room = omega arith }
 
-  pub with-rebuild : s .«max_leaves» < length (grown s x t .entries) → rebuilt s (grown s x t) ≡ inserted s x t
+  pub with-rebuild : s .«max_leaves» < length (grown s (rowItem s x) t .entries) → rebuilt s (grown s (rowItem s x) t) ≡ inserted s x t
   unfolding inserted
-  with-rebuild h = rw (lt-ltb (s .«max_leaves») (length (grown s x t .entries)) h)
+  with-rebuild h = rw (lt-ltb (s .«max_leaves») (length (grown s (rowItem s x) t .entries)) h)
 
-  pub without-rebuild : length (grown s x t .entries) ≤ s .«max_leaves» → grown s x t ≡ inserted s x t
+  pub without-rebuild : length (grown s (rowItem s x) t .entries) ≤ s .«max_leaves» → grown s (rowItem s x) t ≡ inserted s x t
   unfolding inserted
-  without-rebuild h = rw (le-ltb (s .«max_leaves») (length (grown s x t .entries)) h)
+  without-rebuild h = rw (le-ltb (s .«max_leaves») (length (grown s (rowItem s x) t .entries)) h)

@@ -26,29 +26,31 @@ use Rattle.rules.specs.declared.Verdict.the-variants.{Passes}
 use Rattle.rules.specs.Lists.{changeAt, snoc, occurs, every, rowsOf}
 use Rattle.rules.specs.Tree.{push, merge, distTo, Tree, nodeAt, entryAt, withEntries, onRunning}
 use Rattle.rules.specs.Descent.{searched, leafFor, alongPath}
-use Rattle.rules.specs.Insert.{grown, absorbs}
+use Rattle.rules.specs.Insert.{grown, absorbs, rowItem, Item}
 use Rattle.rules.specs.Pairs.{sorted, siblings, cousins}
-use Rattle.rules.specs.Rebuild.{Merging, mergeOne, bothAlive, mergeAll, target, renumber, dropped, withMerges, inserted}
+use Rattle.rules.specs.Rebuild.{Merging, mergeOne, bothAlive, mergeAll, target, renumber, dropped, withMerges}
 use Rattle.rules.specs.Reinsert.{collected, reinserted}
-use Rattle.rules.specs.Refit.{route, reaccumulated, used, anyHollow}
+use Rattle.rules.specs.Refit.{reaccumulated, used, anyHollow}
 use Rattle.rules.specs.Check.{checked, leafLists}
 use Rattle.rules.specs.Calls.{Lent, Left, Written, Listed, lentTree, created, rowInserted, batchInserted, batchRefitted, routed, spreadWritten, validated, listed}
 use Rattle.counting.specs.Count.{is}
 use Rattle.counting.specs.Places.{placeIn}
 use Rattle.head.specs.Counting.{withMerged}
+use Rattle.rules.specs.Route.{greedy, Route}
+use Rattle.rules.specs.Rows.{inserted}
 
 -- ---- whose each row is: an account beside the tree, the owner of each row in order of arrival, moved by the numbers that each step uses
 
--- the entry that takes a row: the nearest one of its leaf that absorbs it, or a new one
-unfoldable pub takerOf : Settings → List Float → Nearest → Tree → ℕ
-takerOf s x Nothing t = length (t .entries)
-takerOf s x (Entry e) t = cond (absorbs s x e t) e (length (t .entries))
+-- the entry that takes an item: the nearest one of its leaf that absorbs it, or a new one
+unfoldable pub takerOf : Item → Nearest → Tree → ℕ
+takerOf i Nothing t = length (t .entries)
+takerOf i (Entry e) t = cond (absorbs i e t) e (length (t .entries))
 
-unfoldable pub taker : Settings → List Float → Tree → ℕ
-taker s x t =
-    let l = leafFor t (λ c. distTo s c x) in
-    let u = alongPath (push s x) l t in
-    takerOf s x (searched (λ e. distTo s (entryAt u e) x) (nodeAt u l .list)) u
+unfoldable pub taker : Item → Tree → ℕ
+taker i t =
+    let l = leafFor t (i .near) in
+    let u = alongPath (i .taken) l t in
+    takerOf i (searched (λ e. i .near (entryAt u e)) (nodeAt u l .list)) u
 
 -- one merge of a rebuild: the entry merged away goes to the one that stays
 unfoldable pub mergedTo : Pair → ℕ → ℕ
@@ -86,8 +88,8 @@ rebuiltTo s t c = mergedWithTo s (siblings s t (t .nodes)) t c
 -- the account after a row, and after rows
 unfoldable pub ownersIn : Settings → List Float → Tree → List ℕ → List ℕ
 ownersIn s x t a =
-    let u = grown s x t in
-    let b = snoc a (taker s x t) in
+    let u = grown s (rowItem s x) t in
+    let b = snoc a (taker (rowItem s x) t) in
     cond (ltb (s .«max_leaves») (length (u .entries))) (map (rebuiltTo s u) b) b
 
 unfoldable pub ownersAll : Settings → List (List Float) → Tree → List ℕ → List ℕ
@@ -95,25 +97,25 @@ ownersAll s [] t a = a
 ownersAll s (x ∷ xs) t a = ownersAll s xs (inserted s x t) (ownersIn s x t a)
 
 -- after a refit: each row begins at its route, and goes where the drops and reinsertions send that entry
-unfoldable pub refitOwners : Settings → List (List Float) → ℕ → ℕ → Tree → List ℕ → List ℕ
-refitOwners s xs zero r t a = a
-refitOwners s xs (suc k) r t a =
-    let es = reaccumulated s t xs in
+unfoldable pub refitOwners : Settings → Route → List (List Float) → ℕ → ℕ → Tree → List ℕ → List ℕ
+refitOwners s way xs zero r t a = a
+refitOwners s way xs (suc k) r t a =
+    let es = reaccumulated s way t xs in
     let alive = map used es in
     let u = dropped alive (withEntries es t) in
-    let b = map (route s t) xs in
+    let b = map (way t) xs in
     elim (every (λ b. b) alive) [
       | true ↦ b
       | false ↦ elim (not (anyHollow (u .nodes)) && leb 1 r) [
         | true ↦ map (renumber alive) b
-        | false ↦ refitOwners s xs k (suc r) (reinserted s u)
+        | false ↦ refitOwners s way xs k (suc r) (reinserted s u)
             (map (reinsertedTo s u) (map (renumber alive) b))
       ]
     ]
 
-unfoldable pub ownersRefit : Settings → List (List Float) → Tree → List ℕ → List ℕ
-ownersRefit s [] t a = a
-ownersRefit s (x ∷ xs) t a = cond (eqb (length (t .entries)) 0) a (refitOwners s (x ∷ xs) (length (t .entries)) 0 t a)
+unfoldable pub ownersRefit : Settings → Route → List (List Float) → Tree → List ℕ → List ℕ
+ownersRefit s way [] t a = a
+ownersRefit s way (x ∷ xs) t a = cond (eqb (length (t .entries)) 0) a (refitOwners s way (x ∷ xs) (length (t .entries)) 0 t a)
 
 -- ---- the calls
 
@@ -156,7 +158,7 @@ pub data Calls : Head → List Float → List ℕ → List (List Float) → List
   refitAll : {h : Head} (l : Lent) {ys : List (List Float)} {a : List ℕ} (xs : List Float) (o : Left) → o ≡ batchRefitted h l xs
       → Calls h (l .floats) (l .links) ys a
       → Calls (o .head) (o .lent .floats) (o .lent .links) (after (o .answer) (rowsRefit (rowsIn h xs) (lentTree h (l .floats) (l .links)) ys) ys)
-      (after (o .answer) (ownersRefit (settingsOf h) (rowsIn h xs) (lentTree h (l .floats) (l .links)) a) a)
+      (after (o .answer) (ownersRefit (settingsOf h) (greedy (settingsOf h)) (rowsIn h xs) (lentTree h (l .floats) (l .links)) a) a)
   createAgain : {h : Head} {fs : List Float} {ls : List ℕ} {ys : List (List Float)} {a : List ℕ} (r : Refusal) → created h fs ls .answer ≡ Refused r
       → Calls h fs ls ys a
       → Calls (created h fs ls .head) (created h fs ls .floats) (created h fs ls .links) ys a
@@ -222,29 +224,28 @@ pub record Promise (s : Settings) (t : Tree) (ys : List (List Float)) (a : List 
   pub made : (c : ℕ) → c < length (t .entries) → Made s ys (entryAt t c) (owns a c)
   pub passes : checked s t ≡ Passes
 
--- ---- one row's insert without a rebuild, from t to u
+-- ---- one row's insert without a rebuild, from t to u; so of whatever else goes in at a leaf l
 
--- the row's path: from the leaf that its descent finds up to the root, k nodes at most
+-- the row's path: from its leaf up to the root, k nodes at most
 unfoldable pub wayUp : Tree → ℕ → Option ℕ → List ℕ
 wayUp t zero o = []
 wayUp t (suc k) none = []
 wayUp t (suc k) (some n) = n ∷ wayUp t k (nodeAt t n .parent)
 
-unfoldable pub rowPath : Settings → List Float → Tree → List ℕ
-rowPath s x t = wayUp t (length (t .nodes)) (some (leafFor t (λ c. distTo s c x)))
+unfoldable pub pathUp : Tree → ℕ → List ℕ
+pathUp t l = wayUp t (length (t .nodes)) (some l)
 
-abbrev pub OnPath : Settings → List Float → Tree → ℕ → Type 0
-OnPath s x t q = 0 < occurs q (rowPath s x t)
+abbrev pub OnPath : Tree → ℕ → ℕ → Type 0
+OnPath t l q = 0 < occurs q (pathUp t l)
 
--- the entry of the row's leaf that `dist` finds nearest, or that no distance was below infinity
-unfoldable pub winner : Settings → List Float → Tree → Nearest
-winner s x t = searched (λ e. distTo s (entryAt t e) x) (nodeAt t (leafFor t (λ c. distTo s c x)) .list)
+-- the entry of the leaf that `dist` finds nearest, or that no distance was below infinity
+unfoldable pub winner : Item → ℕ → Tree → Nearest
+winner i l t = searched (λ e. i .near (entryAt t e)) (nodeAt t l .list)
 
--- the winner took the row in, and `abs` to it is within the threshold; or there is one entry more, and no winner is within it
-pub data OneEntry (s : Settings) (x : List Float) (t u : Tree) : Type 0 where
-  took : (e : ℕ) → e < length (t .entries) → winner s x t ≡ Entry e → absorbs s x e t ≡ true
-      → u .entries ≡ changeAt (push s x) e (t .entries) → OneEntry s x t u
-  began : ((e : ℕ) → winner s x t ≡ Entry e → absorbs s x e t ≡ false) → u .entries ≡ snoc (t .entries) (push s x blank) → OneEntry s x t u
+-- the winner took the item in, and `abs` to it is within the threshold; or there is one entry more, and no winner is within it
+pub data OneEntry (i : Item) (l : ℕ) (t u : Tree) : Type 0 where
+  took : (e : ℕ) → e < length (t .entries) → winner i l t ≡ Entry e → absorbs i e t ≡ true → u .entries ≡ changeAt (i .taken) e (t .entries) → OneEntry i l t u
+  began : ((e : ℕ) → winner i l t ≡ Entry e → absorbs i e t ≡ false) → u .entries ≡ snoc (t .entries) (i .alone) → OneEntry i l t u
 
 -- node q's parent was one of P, and is a new node now: n there were
 pub record Moved (P : ℕ → Type 0) (n : ℕ) (t u : Tree) (q : ℕ) : Type 0 where
@@ -264,6 +265,10 @@ pub record Same (P : ℕ → Type 0) (n : ℕ) (t u : Tree) (q : ℕ) : Type 0 w
 
 -- One row's insert without a rebuild alters one entry, which absorbs only within the threshold, or adds one;
 -- off the row's path and its splits no node changes, but for parent links that a split moves.
-pub record Local (s : Settings) (x : List Float) (t u : Tree) : Type 0 where
-  pub entry : OneEntry s x t u
-  pub node : (q : ℕ) → q < length (t .nodes) → (OnPath s x t q → ⊥) → Same (OnPath s x t) (length (t .nodes)) t u q
+pub record Local (i : Item) (l : ℕ) (t u : Tree) : Type 0 where
+  pub entry : OneEntry i l t u
+  pub node : (q : ℕ) → q < length (t .nodes) → (OnPath t l q → ⊥) → Same (OnPath t l) (length (t .nodes)) t u q
+
+-- at the leaf that the row's descent finds
+abbrev pub RowLocal : Settings → List Float → Tree → Tree → Type 0
+RowLocal s x t u = Local (rowItem s x) (leafFor t (λ c. distTo s c x)) t u

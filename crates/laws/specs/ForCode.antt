@@ -7,24 +7,21 @@ use mathlib.Core.Bool.{Bool, true, false, true≢false, cond}
 use mathlib.Core.Option.{none, some, Option·none-ne-some}
 use native.Mathlib.Omega.{arith}
 use lib.ListN.{length}
-use lib.Ieee.{Float}
 use Rattle.feature.specs.declared.Summary.{Summary}
 use Rattle.head.specs.declared.Settings.{Settings}
 use Rattle.head.specs.Sizes.{entryCap}
-use Rattle.rules.specs.Descent.{descended, leafFor, alongPath}
+use Rattle.rules.specs.Descent.{alongPath}
 use Rattle.rules.specs.Lists.{occurs}
 use Rattle.rules.specs.Tree.{Tree, nodeAt, cap, summed, withNodes}
 use Rattle.counting.specs.Sums.{over, length-over, sumTo, sum-at, sum-ones, sum-le}
 use Rattle.counting.specs.Count.{below-lt}
 use Rattle.laws.specs.Invariant.Links.{Links, held, held-yes, kid-in, parent-lists, nil}
 use Rattle.laws.specs.Invariant.Sound.{Settled, Looking}
-use Rattle.laws.specs.Inserting.Descent.{leaf-found}
 use Rattle.laws.specs.Invariant.Height.{height}
 pub use Rattle.laws.specs.Invariant.Beneath.{Frame, frame-of, kid-below, entry-below, leaves-sum, inners-sum}
 use Rattle.laws.specs.Inserting.Grown.{climb-keeps}
 use Rattle.laws.specs.Inserting.First.{emptyTree, Holding}
 use Rattle.head.specs.declared.Running.{Running}
-pub use Rattle.laws.specs.Inserting.First.{rowPlaced, PlacedRow, row-placed, grown-holds}
 pub use Rattle.laws.specs.Splitting.Up.{next-looking, next-in}
 pub use Rattle.laws.specs.Room.Nodes.{room-links, Roomy, links-roomy, Splitting, splitting-roomy}
 
@@ -127,19 +124,6 @@ linked-standing s t R g few = record {
 
 pub settled-standing : (s : Settings) (t : Tree) (R : ℕ → ℕ) (total : ℕ) → Settled s t R total → length (t .entries) ≤ entryCap s → Standing s t
 settled-standing s t R total g few = linked-standing s t R (g .links) few
-
--- the leaf that a descent finds is one
-abbrev AtLeaf : Settings → (Summary → Float) → Tree → Type 0
-AtLeaf s f t = (leafFor t f < length (t .nodes)) × (nodeAt t (leafFor t f) .leaf ≡ true)
-
-empty-leaf : (s : Settings) (f : Summary → Float) (z : Summary) (r : Running) → AtLeaf s f (emptyTree z r)
-unfolding leafFor descended nodeAt
-empty-leaf s f z r = (omega arith, refl)
-
-pub leaf-of : (s : Settings) (t : Tree) (total : ℕ) (f : Summary → Float) → Holding s t total
-    → (leafFor t f < length (t .nodes)) × (nodeAt t (leafFor t f) .leaf ≡ true)
-leaf-of s t total f (inl b) = let q = b .0 in subst (AtLeaf s f) (sym (q .is)) (empty-leaf s f (q .summary) (t .running))
-leaf-of s t total f (inr w) = leaf-found s t f (w .0) nil nil nil (w .1 .links)
 
 pub path-kids : (F : Summary → Summary) (l : ℕ) (t : Tree) (k : ℕ) → nodeAt (alongPath F l t) k .list ≡ nodeAt t k .list
 unfolding alongPath withNodes nodeAt summed

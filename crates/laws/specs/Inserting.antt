@@ -6,3 +6,4 @@ pub mod Begun
 pub mod Fed
 pub mod Grown
 pub mod First
+pub mod Items

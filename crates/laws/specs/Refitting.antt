@@ -1,4 +1,5 @@
 -- A refit keeps the invariant and begins the account anew.
+pub mod Names
 pub mod Poured
 pub mod Round
 pub mod PouredMade

@@ -11,21 +11,21 @@ use lib.Ieee.{Float, le}
 use lib.Ieee.Scale.{finite}
 use Rattle.binary64.specs.Operators.{f0}
 use Rattle.feature.specs.declared.Summary.{Summary}
-use Rattle.feature.specs.Summaries.{blank}
 use Rattle.head.specs.declared.Settings.{Settings}
 use Rattle.head.specs.declared.Running.{Running}
 use Rattle.rules.specs.declared.Nearest.{Nearest}
 use Rattle.rules.specs.declared.Nearest.the-variants.{Entry, Nothing}
 use Rattle.rules.specs.Lists.{every}
-use Rattle.rules.specs.Tree.{Node, Tree, nodeAt, entryAt, push, merge, distTo, distBetween, withNodes, withEntries, withRoot}
+use Rattle.rules.specs.Tree.{Node, Tree, nodeAt, entryAt, merge, distBetween, withNodes, withEntries, withRoot}
 use Rattle.rules.specs.Descent.{searched, leafFor, alongPath}
 use Rattle.rules.specs.Split.{split, parted, crowned, fitting, splitNext, splitIf, splitUp, settled}
-use Rattle.rules.specs.Insert.{begun, absorbed, absorbs, absorbedOrBegun, placed, grownAt, grown}
+use Rattle.rules.specs.Insert.{begun, absorbed, absorbs, absorbedOrBegun, placed, grownAt, grown, Item}
 use Rattle.rules.specs.Reinsert.{collected, cleared, replaced, replacedAll, reinserted}
 use Rattle.rules.specs.Refold.{refoldOne, refoldAll, refolded, preorder}
 use Rattle.rules.specs.Rebuild.{dropped}
 use Rattle.rules.specs.Refit.{reaccumulated, used, anyHollow, refitRounds, refitted}
 use Rattle.counting.specs.Count.{either}
+use Rattle.rules.specs.Route.{Route}
 
 -- ---- what is asked of the numbers that run along
 
@@ -84,17 +84,17 @@ settled-running : (s : Settings) (i : ℕ) (t : Tree) → (settled s i t) .runni
 unfolding settled withNodes withRoot
 settled-running s i t = splitUp-keeps (λ u. u .running) (λ ns u. refl) (λ r u. refl) s (length (t .nodes)) i t
 
-joined-running : (s : Settings) (x : List Float) (l : ℕ) (r : Nearest) (t : Tree) → (absorbedOrBegun s x l r t) .running ≡ t .running
+joined-running : (i : Item) (l : ℕ) (r : Nearest) (t : Tree) → (absorbedOrBegun i l r t) .running ≡ t .running
 unfolding absorbedOrBegun begun absorbed withNodes withEntries
-joined-running s x l Nothing t = refl
-joined-running s x l (Entry e) t = either (λ u. u .running ≡ t .running) (absorbs s x e t) (absorbed s x e t) (begun l (push s x blank) t) refl refl
+joined-running i l Nothing t = refl
+joined-running i l (Entry e) t = either (λ u. u .running ≡ t .running) (absorbs i e t) (absorbed i e t) (begun l (i .alone) t) refl refl
 
-pub grown-running : (s : Settings) (x : List Float) (t : Tree) → (grown s x t) .running ≡ t .running
+pub grown-running : (s : Settings) (i : Item) (t : Tree) → (grown s i t) .running ≡ t .running
 unfolding grown grownAt placed alongPath withNodes
-grown-running s x t =
-    let l = leafFor t (λ c. distTo s c x) in
-    let u = alongPath (push s x) l t in
-    settled-running s l (placed s x l u) ∙ joined-running s x l (searched (λ e. distTo s (entryAt u e) x) (nodeAt u l .list)) u
+grown-running s i t =
+    let l = leafFor t (i .near) in
+    let u = alongPath (i .taken) l t in
+    settled-running s l (placed i l u) ∙ joined-running i l (searched (λ e. i .near (entryAt u e)) (nodeAt u l .list)) u
 
 replacedAll-running : (s : Settings) (es : List Summary) (t : Tree) → (replacedAll s es t) .running ≡ t .running
 unfolding replacedAll replaced begun withNodes withEntries alongPath
@@ -111,33 +111,33 @@ pub refolded-running : (s : Settings) (t : Tree) → (refolded s t) .running ≡
 unfolding withNodes withRoot
 refolded-running s t = refolded-keeps (λ u. u .running) (λ ns u. refl) (λ r u. refl) s t
 
-rounds-running : (s : Settings) (xs : List (List Float)) (k r : ℕ) (t : Tree) → (refitRounds s xs k r t) .running ≡ t .running
+rounds-running : (s : Settings) (way : Route) (xs : List (List Float)) (k r : ℕ) (t : Tree) → (refitRounds s way xs k r t) .running ≡ t .running
 unfolding refitRounds dropped withEntries withNodes
-rounds-running s xs zero r t = refl
-rounds-running s xs (suc k) r t =
-    go (every (λ b. b) alive) (not (anyHollow (u .nodes)) && leb 1 r) (rounds-running s xs k (suc r) (reinserted s u) ∙ reinserted-running s u)
+rounds-running s way xs zero r t = refl
+rounds-running s way xs (suc k) r t =
+    go (every (λ b. b) alive) (not (anyHollow (u .nodes)) && leb 1 r) (rounds-running s way xs k (suc r) (reinserted s u) ∙ reinserted-running s u)
   where
     alive : List Bool
-    alive = map used (reaccumulated s t xs)
+    alive = map used (reaccumulated s way t xs)
 
     u : Tree
-    u = dropped alive (withEntries (reaccumulated s t xs) t)
+    u = dropped alive (withEntries (reaccumulated s way t xs) t)
 
-    go : (p q : Bool) → (refitRounds s xs k (suc r) (reinserted s u)) .running ≡ t .running
+    go : (p q : Bool) → (refitRounds s way xs k (suc r) (reinserted s u)) .running ≡ t .running
         → (elim p as (λ _. Tree) [
-          | true ↦ withEntries (reaccumulated s t xs) t
+          | true ↦ withEntries (reaccumulated s way t xs) t
           | false ↦ elim q as (λ _. Tree)
-              [ true ↦ u | false ↦ refitRounds s xs k (suc r) (reinserted s u) ]
+              [ true ↦ u | false ↦ refitRounds s way xs k (suc r) (reinserted s u) ]
         ]) .running ≡ t .running
     go true q ih = refl
     go false true ih = refl
     go false false ih = ih
 
 -- threshold, merged total and rebuild count stay
-pub refitted-running : (s : Settings) (xs : List (List Float)) (t : Tree) → (refitted s xs t) .running ≡ t .running
+pub refitted-running : (s : Settings) (way : Route) (xs : List (List Float)) (t : Tree) → (refitted s way xs t) .running ≡ t .running
 unfolding refitted
-refitted-running s [] t = refl
-refitted-running s (x ∷ xs) t =
-    let v = refitRounds s (x ∷ xs) (length (t .entries)) 0 t in
+refitted-running s way [] t = refl
+refitted-running s way (x ∷ xs) t =
+    let v = refitRounds s way (x ∷ xs) (length (t .entries)) 0 t in
     either (λ u. u .running ≡ t .running) (eqb (length (t .entries)) 0) t (refolded s v) refl (refolded-running s v
-    ∙ rounds-running s (x ∷ xs) (length (t .entries)) 0 t)
+    ∙ rounds-running s way (x ∷ xs) (length (t .entries)) 0 t)

@@ -17,17 +17,19 @@ use Rattle.rules.specs.Tree.{Node, Tree, push, merge, distTo, distBetween, node
 use Rattle.rules.specs.Tree.{withNodes, withEntries, withRoot, onRunning, summed, listing, adding, under}
 use Rattle.rules.specs.Descent.{searched, leafFor, climbed, alongPath}
 use Rattle.rules.specs.Split.{gathered, stays, adopted, half, parted, split, crowned, fitting, splitNext, splitIf, splitUp, settled}
-use Rattle.rules.specs.Insert.{begun, absorbed, absorbs, absorbedOrBegun, placed, grownAt, grown}
+use Rattle.rules.specs.Insert.{begun, absorbed, absorbs, absorbedOrBegun, placed, grownAt, grown, rowItem}
 use Rattle.rules.specs.Reinsert.{collected, cleared, replaced, replacedAll, reinserted}
 use Rattle.rules.specs.Refold.{foldBalanced, refoldOne, refoldAll, refolded, preorder}
 use Rattle.rules.specs.Pairs.{siblings, cousins, sorted}
 use Rattle.rules.specs.declared.Pair.{Pair}
 use Rattle.rules.specs.Rebuild.{Merging, mergeOne, bothAlive, mergeAll, pruned, dropped, withMerges, rebalanced}
-use Rattle.rules.specs.Rebuild.{compacted, mergedBy, mergedWith, counted, rebuilt, inserted, insertedAll}
-use Rattle.rules.specs.Refit.{route, poured, reaccumulated, used, anyHollow, refitRounds, refitted}
+use Rattle.rules.specs.Rebuild.{compacted, mergedBy, mergedWith, counted, rebuilt}
+use Rattle.rules.specs.Refit.{poured, reaccumulated, used, anyHollow, refitRounds, refitted}
 use Rattle.counting.specs.Count.{either}
 use Rattle.counting.specs.All.{All, all-map, all-at, all-change, all-back, all-take, all-keep, all-drop, all-append, all-set}
 use Rattle.head.specs.Counting.{withMerged}
+use Rattle.rules.specs.Route.{Route}
+use Rattle.rules.specs.Rows.{inserted, insertedAll}
 
 abbrev OfNode : (Summary → Type 0) → Node → Type 0
 OfNode Q n = Q (n .summary)
@@ -137,21 +139,21 @@ module _ (s : Settings) (Q : Summary → Type 0) (none-q : Q blank) (push-q : (x
 
   -- ---- a row in, and an entry placed again
 
-  joined-q : (x : List Float) (l : ℕ) (r : Nearest) (t : Tree) → Throughout Q t → Throughout Q (absorbedOrBegun s x l r t)
+  joined-q : (x : List Float) (l : ℕ) (r : Nearest) (t : Tree) → Throughout Q t → Throughout Q (absorbedOrBegun (rowItem s x) l r t)
   unfolding absorbedOrBegun absorbed
   joined-q x l Nothing t h = begun-q l (push s x blank) t (push-q x blank none-q) h
   joined-q x l (Entry e) t h =
-      either (Throughout Q) (absorbs s x e t) (absorbed s x e t) (begun l (push s x blank) t)
+      either (Throughout Q) (absorbs (rowItem s x) e t) (absorbed (rowItem s x) e t) (begun l (push s x blank) t)
       (entries-q (changeAt (push s x) e (t .entries)) t (all-change Q (push s x) (push-q x) e (t .entries) (h .entries)) h)
       (begun-q l (push s x blank) t (push-q x blank none-q) h)
 
-  grown-q : (x : List Float) (t : Tree) → Throughout Q t → Throughout Q (grown s x t)
+  grown-q : (x : List Float) (t : Tree) → Throughout Q t → Throughout Q (grown s (rowItem s x) t)
   unfolding grown grownAt placed settled
   grown-q x t h =
       let l = leafFor t (λ c. distTo s c x) in
       let u = alongPath (push s x) l t in
       let r = searched (λ e. distTo s (entryAt u e) x) (nodeAt u l .list) in
-      up-q (length ((absorbedOrBegun s x l r u) .nodes)) l (absorbedOrBegun s x l r u) (joined-q x l r u (path-q (push s x) (push-q x) l t h))
+      up-q (length ((absorbedOrBegun (rowItem s x) l r u) .nodes)) l (absorbedOrBegun (rowItem s x) l r u) (joined-q x l r u (path-q (push s x) (push-q x) l t h))
 
   replacedAll-q : (es : List Summary) (t : Tree) → All Q es → Throughout Q t → Throughout Q (replacedAll s es t)
   unfolding replacedAll replaced settled
@@ -255,30 +257,30 @@ module _ (s : Settings) (Q : Summary → Type 0) (none-q : Q blank) (push-q : (x
   unfolding insertedAll inserted
   insertedAll-q [] t h = h
   insertedAll-q (x ∷ xs) t h =
-      let u = grown s x t in
+      let u = grown s (rowItem s x) t in
       let g = grown-q x t h in
       insertedAll-q xs (inserted s x t) (either (Throughout Q) (ltb (s .«max_leaves») (length (u .entries))) (rebuilt s u) u (rebuilt-q u g) g)
 
   -- ---- the refit
 
-  poured-q : (t : Tree) (xs : List (List Float)) (es : List Summary) → All Q es → All Q (poured s t xs es)
+  poured-q : (way : Route) (t : Tree) (xs : List (List Float)) (es : List Summary) → All Q es → All Q (poured s (way t) xs es)
   unfolding poured
-  poured-q t [] es h = h
-  poured-q t (x ∷ xs) es h = poured-q t xs (changeAt (push s x) (route s t x) es) (all-change Q (push s x) (push-q x) (route s t x) es h)
+  poured-q way t [] es h = h
+  poured-q way t (x ∷ xs) es h = poured-q way t xs (changeAt (push s x) (way t x) es) (all-change Q (push s x) (push-q x) (way t x) es h)
 
-  rounds-q : (xs : List (List Float)) (k r : ℕ) (t : Tree) → Throughout Q t → Throughout Q (refitRounds s xs k r t)
+  rounds-q : (way : Route) (xs : List (List Float)) (k r : ℕ) (t : Tree) → Throughout Q t → Throughout Q (refitRounds s way xs k r t)
   unfolding refitRounds reaccumulated
-  rounds-q xs zero r t h = h
-  rounds-q xs (suc k) r t h = go (every (λ b. b) alive) (not (anyHollow (u .nodes)) && leb 1 r) (rounds-q xs k (suc r) (reinserted s u) (reinserted-q u du))
+  rounds-q way xs zero r t h = h
+  rounds-q way xs (suc k) r t h = go (every (λ b. b) alive) (not (anyHollow (u .nodes)) && leb 1 r) (rounds-q way xs k (suc r) (reinserted s u) (reinserted-q u du))
     where
       es : List Summary
-      es = reaccumulated s t xs
+      es = reaccumulated s way t xs
 
       alive : List Bool
       alive = map used es
 
       w : Throughout Q (withEntries es t)
-      w = entries-q es t (unfold reaccumulated in poured-q t xs (map (λ _. blank) (t .entries)) (all-map Q (λ _. blank) (λ _. none-q) (t .entries))) h
+      w = entries-q es t (unfold reaccumulated in poured-q way t xs (map (λ _. blank) (t .entries)) (all-map Q (λ _. blank) (λ _. none-q) (t .entries))) h
 
       u : Tree
       u = dropped alive (withEntries es t)
@@ -286,16 +288,16 @@ module _ (s : Settings) (Q : Summary → Type 0) (none-q : Q blank) (push-q : (x
       du : Throughout Q u
       du = dropped-q alive (withEntries es t) w
 
-      go : (p q : Bool) → Throughout Q (refitRounds s xs k (suc r) (reinserted s u))
+      go : (p q : Bool) → Throughout Q (refitRounds s way xs k (suc r) (reinserted s u))
           → Throughout Q
-          (elim p as (λ _. Tree) [ true ↦ withEntries es t | false ↦ elim q as (λ _. Tree) [ true ↦ u | false ↦ refitRounds s xs k (suc r) (reinserted s u) ] ])
+          (elim p as (λ _. Tree) [ true ↦ withEntries es t | false ↦ elim q as (λ _. Tree) [ true ↦ u | false ↦ refitRounds s way xs k (suc r) (reinserted s u) ] ])
       go true q ih = w
       go false true ih = du
       go false false ih = ih
 
-  pub refitted-q : (xs : List (List Float)) (t : Tree) → Throughout Q t → Throughout Q (refitted s xs t)
+  pub refitted-q : (way : Route) (xs : List (List Float)) (t : Tree) → Throughout Q t → Throughout Q (refitted s way xs t)
   unfolding refitted
-  refitted-q [] t h = h
-  refitted-q (x ∷ xs) t h =
-      let v = refitRounds s (x ∷ xs) (length (t .entries)) 0 t in
-      either (Throughout Q) (eqb (length (t .entries)) 0) t (refolded s v) h (refolded-q v (rounds-q (x ∷ xs) (length (t .entries)) 0 t h))
+  refitted-q way [] t h = h
+  refitted-q way (x ∷ xs) t h =
+      let v = refitRounds s way (x ∷ xs) (length (t .entries)) 0 t in
+      either (Throughout Q) (eqb (length (t .entries)) 0) t (refolded s v) h (refolded-q v (rounds-q way (x ∷ xs) (length (t .entries)) 0 t h))

@@ -15,7 +15,6 @@ use Rattle.head.specs.declared.Settings.{Settings}
 use Rattle.head.specs.Heads.{settingsOf, withCounters}
 use Rattle.head.specs.Limits.{Sized}
 use Rattle.rules.specs.Tree.{Tree}
-use Rattle.rules.specs.Rebuild.{inserted, insertedAll}
 use Rattle.rules.specs.Check.{checked, totalOf}
 use Rattle.rules.specs.Slices.{countersOf}
 use Rattle.rules.specs.Calls.{Lent, Left, unless, rowAsked, lentTree, changed, rowShapeRefusal, insertFullRefusal}
@@ -45,6 +44,7 @@ use Rattle.lines.specs.declared.Stage.the-variants as Stages
 use Rattle.lines.specs.Runs.{listedAt, listed, Room, Grown, Stands, LineRead, badRun, bad-read}
 use Rattle.lines.specs.Lines.{row-none}
 use Rattle.lines.specs.Heads.{floats-enough, links-enough, scratch-enough, numbers-enough}
+use Rattle.rules.specs.Rows.{inserted, insertedAll}
 
 -- ---- what a grown tree gives
 

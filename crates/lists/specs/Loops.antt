@@ -11,11 +11,12 @@ use lib.Ieee.Bits.{is-true}
 use lib.ListN.{length, getD}
 use Rattle.feature.specs.declared.Summary.{Summary}
 use Rattle.rules.specs.Lists.{every, upFrom, occurs}
-use Rattle.rules.specs.Check.{rowsIn, totalOf}
+use Rattle.rules.specs.Check.{totalOf}
 use Rattle.counting.specs.Count.{same?, is, is-same, is-other}
 use Rattle.counting.specs.Sums.{over, occurs-over, sumTo}
 use Rattle.laws.specs.Invariant.Height.{sum-first}
 use Rattle.laws.specs.Check.Passing.{every-up}
+use Rattle.rules.specs.Tree.{rowsIn}
 
 -- ---- tests
 

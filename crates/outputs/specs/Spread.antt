@@ -14,8 +14,8 @@ use Rattle.feature.specs.Shape.{Shaped}
 use Rattle.feature.specs.declared.Summary.{Summary}
 use Rattle.feature.specs.declared.Feature.{Feature}
 use Rattle.feature.specs.declared.Feature.the-variants.{Spherical, Diagonal}
-use Rattle.rules.specs.Refit.{spreadOf}
 use Rattle.rules.specs.ListLaws.{map-at}
+use Rattle.rules.specs.Spread.{spreadOf}
 
 module _ (f : Feature) (n : ℕ) (few : n ≤ 8) (e : Summary) (h : Shaped f n e) where
   kept : length (take n (e .deviation)) ≡ n

@@ -15,13 +15,14 @@ use Rattle.rules.specs.Lists.{changeAt, rowsOf, table}
 use Rattle.rules.specs.ListLaws.{table-at}
 use Rattle.rules.specs.Tree.{Tree, push, withEntries}
 use Rattle.rules.specs.Slices.{treeOf}
-use Rattle.rules.specs.Refit.{route, poured, reaccumulated}
+use Rattle.rules.specs.Refit.{poured, reaccumulated}
 use Rattle.arena.specs.Numbered.{summaryAt, Changed}
 use Rattle.stretch.specs.Stretches.{append-none}
 use Rattle.arena.specs.Tables.{table-change}
 use Rattle.arena.specs.Trees.{FloatsTo, onEntry, count-entries}
 use Rattle.rows.specs.Rows.{rowOf, rowsFrom, rows-all, rows-next, rows-none}
 use Rattle.scratch.specs.Slots.{slotsIn, length-slots, slots-more}
+use Rattle.rules.specs.Route.{greedy}
 
 -- ---- emptied
 
@@ -38,32 +39,32 @@ all-empty (x ∷ l) = ap (λ m. blank ∷ m) (all-empty l)
 module _ (s : Settings) (n : Counters) (t : Tree) (xs : List Float) (count : ℕ) where
   -- what scratch fs becomes by them
   unfoldable pub pouredFrom : ℕ → List Float → List Summary
-  pouredFrom k fs = poured s t (rowsFrom s xs count k) (slotsIn s fs (n .entries))
+  pouredFrom k fs = poured s (greedy s t) (rowsFrom s xs count k) (slotsIn s fs (n .entries))
 
-  pub pour-start : (fs : List Float) → pouredFrom 0 fs ≡ poured s t (rowsOf count (s .dim) xs) (slotsIn s fs (n .entries))
+  pub pour-start : (fs : List Float) → pouredFrom 0 fs ≡ poured s (greedy s t) (rowsOf count (s .dim) xs) (slotsIn s fs (n .entries))
   unfolding pouredFrom
-  pour-start fs = ap (λ rows. poured s t rows (slotsIn s fs (n .entries))) (rows-all s xs count)
+  pour-start fs = ap (λ rows. poured s (greedy s t) rows (slotsIn s fs (n .entries))) (rows-all s xs count)
 
-  pub pour-turn : (k e : ℕ) (x : List Float) (fs gs : List Float) → k < count → e < n .entries → x ≡ rowOf s xs k → e ≡ route s t x
+  pub pour-turn : (k e : ℕ) (x : List Float) (fs gs : List Float) → k < count → e < n .entries → x ≡ rowOf s xs k → e ≡ greedy s t x
       → Changed s (push s x) e fs gs → pouredFrom (k + 1) gs ≡ pouredFrom k fs
   unfolding pouredFrom poured slotsIn
   pour-turn k e x fs gs h l p q w =
       let one : table (summaryAt s gs) (n .entries) ≡ changeAt (push s x) e (table (summaryAt s fs) (n .entries)) =
       table-change (push s x) (summaryAt s fs) (summaryAt s gs) (n .entries) e l (w .here) (λ j _ d. w .others j d) in
-      ap (poured s t (rowsFrom s xs count (k + 1))) one
-      ∙ ap₂ (λ i y. poured s t (rowsFrom s xs count (k + 1)) (changeAt (push s y) i (table (summaryAt s fs) (n .entries)))) (q ∙ ap (route s t) p) p
-      ∙ sym (ap (λ rows. poured s t rows (table (summaryAt s fs) (n .entries))) (rows-next s xs count k h))
+      ap (poured s (greedy s t) (rowsFrom s xs count (k + 1))) one
+      ∙ ap₂ (λ i y. poured s (greedy s t) (rowsFrom s xs count (k + 1)) (changeAt (push s y) i (table (summaryAt s fs) (n .entries)))) (q ∙ ap (greedy s t) p) p
+      ∙ sym (ap (λ rows. poured s (greedy s t) rows (table (summaryAt s fs) (n .entries))) (rows-next s xs count k h))
 
   pub pour-end : (k : ℕ) (fs : List Float) → count ≤ k → slotsIn s fs (n .entries) ≡ pouredFrom k fs
   unfolding pouredFrom poured
-  pour-end k fs h = sym (ap (λ rows. poured s t rows (slotsIn s fs (n .entries))) (rows-none s xs count k h))
+  pour-end k fs h = sym (ap (λ rows. poured s (greedy s t) rows (slotsIn s fs (n .entries))) (rows-none s xs count k h))
 
 -- into empty ones: as the rules start the entries afresh
 pub poured-afresh : (s : Settings) (n : Counters) (fs : List Float) (ls : List ℕ) (rows : List (List Float)) {es zs : List Summary}
-    → zs ≡ replicate (n .entries) blank → es ≡ poured s (treeOf s n fs ls) rows zs → es ≡ reaccumulated s (treeOf s n fs ls) rows
+    → zs ≡ replicate (n .entries) blank → es ≡ poured s (greedy s (treeOf s n fs ls)) rows zs → es ≡ reaccumulated s (greedy s) (treeOf s n fs ls) rows
 unfolding reaccumulated
 poured-afresh s n fs ls rows z e =
-    e ∙ ap (poured s (treeOf s n fs ls) rows)
+    e ∙ ap (poured s (greedy s (treeOf s n fs ls)) rows)
     (z ∙ ap (λ k. replicate k blank) (sym (count-entries s n fs ls)) ∙ all-empty (treeOf s n fs ls .entries))
 
 -- ---- put back

@@ -19,6 +19,7 @@ use Rattle.rules.specs.Refit.{reaccumulated, used}
 use Rattle.arena.specs.Tables.{table-same, table-more}
 use Rattle.arena.specs.Trees.{count-entries}
 use Rattle.scratch.specs.Flags.{aliveAt, aliveIn, flag-here, flag-other}
+use Rattle.rules.specs.Route.{greedy}
 
 -- entry i's flag is b, and every other as it was
 pub record Flagged (i : ℕ) (b : Bool) (ns ms : List ℕ) : Type 0 where
@@ -85,13 +86,13 @@ flags-all s n fs ls i ns all g e =
 
 -- the tree t with its entries made of the rows xs is u; which of them are used, and whether all are
 pub record Afresh (s : Settings) (xs : List (List Float)) (t u : Tree) (alive : List Bool) (all : Bool) : Type 0 where
-  pub tree : u ≡ withEntries (reaccumulated s t xs) t
-  pub flags : alive ≡ map used (reaccumulated s t xs)
-  pub whole : all ≡ every (λ b. b) (map used (reaccumulated s t xs))
+  pub tree : u ≡ withEntries (reaccumulated s (greedy s) t xs) t
+  pub flags : alive ≡ map used (reaccumulated s (greedy s) t xs)
+  pub whole : all ≡ every (λ b. b) (map used (reaccumulated s (greedy s) t xs))
 
-pub afresh : (s : Settings) (xs : List (List Float)) (t u : Tree) (es : List Summary) (alive : List Bool) (all : Bool) → es ≡ reaccumulated s t xs
+pub afresh : (s : Settings) (xs : List (List Float)) (t u : Tree) (es : List Summary) (alive : List Bool) (all : Bool) → es ≡ reaccumulated s (greedy s) t xs
     → u ≡ withEntries es t → alive ≡ map used (u .entries) → all ≡ every (λ b. b) alive → Afresh s xs t u alive all
 afresh s xs t u es alive all p q f a =
-    let tree : u ≡ withEntries (reaccumulated s t xs) t = q ∙ ap (λ es. withEntries es t) p in
-    let flags : alive ≡ map used (reaccumulated s t xs) = f ∙ ap (λ u. map used (u .entries)) tree ∙ (unfold withEntries in refl) in
+    let tree : u ≡ withEntries (reaccumulated s (greedy s) t xs) t = q ∙ ap (λ es. withEntries es t) p in
+    let flags : alive ≡ map used (reaccumulated s (greedy s) t xs) = f ∙ ap (λ u. map used (u .entries)) tree ∙ (unfold withEntries in refl) in
     record { tree = tree; flags = flags; whole = a ∙ ap (every (λ b. b)) flags }

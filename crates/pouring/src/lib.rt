@@ -16,6 +16,7 @@ ghost use Rattle.scratch.specs.Slots.{slotsIn};
 ghost use Rattle.scratch.specs.Stored.{Scratch};
 ghost use Rattle.route.specs.Routing.{Routable};
 ghost use Rattle.pouring.specs.Used.{Flagged, Afresh};
+ghost use Rattle.rules.specs.Route.{greedy};
 use arena::entries;
 use arena::slots;
 use head::Counters;
@@ -49,7 +50,7 @@ fn pour_rows(
     requires { ⌜ (count * s .dim ≤ length (now rows)) × Routable s (treeOf s n (now floats) (now links)) ⌝ }
     ensures { λ _. ⌜
         slotsIn s (now (scratch .exit)) (n .entries)
-        ≡ poured s (treeOf s n (now (floats .entry)) (now (links .entry))) (rowsOf count (s .dim) (now (rows .entry)))
+        ≡ poured s (greedy s (treeOf s n (now (floats .entry)) (now (links .entry)))) (rowsOf count (s .dim) (now (rows .entry)))
         (slotsIn s (now (scratch .entry)) (n .entries)) ⌝ }
 {
     let mut k = 0;
@@ -75,7 +76,7 @@ fn pour(
     requires { ⌜ (count * s .dim ≤ length (now rows)) × Routable s (treeOf s n (now floats) (now links)) ⌝ }
     ensures { λ _. ⌜
         slotsIn s (now (scratch .exit)) (n .entries)
-        ≡ reaccumulated s (treeOf s n (now (floats .entry)) (now (links .entry))) (rowsOf count (s .dim) (now (rows .entry))) ⌝ }
+        ≡ reaccumulated s (greedy s) (treeOf s n (now (floats .entry)) (now (links .entry))) (rowsOf count (s .dim) (now (rows .entry))) ⌝ }
 {
     empty_slots(s, scratch, n.entries);
     pour_rows(s, n, floats, links, scratch, rows, count);

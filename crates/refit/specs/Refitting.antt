@@ -22,6 +22,8 @@ use Rattle.laws.specs.ForCode.{Standing, linked-standing}
 use Rattle.refold.specs.Refolding.{Filled}
 use Rattle.route.specs.Routing.{rest-routable}
 use Rattle.refit.specs.Rounds.{Pourable}
+use Rattle.rules.specs.Route.{greedy}
+use Rattle.laws.specs.Refitting.Names.{greedy-names}
 
 -- a tree between calls; if it has entries, no more rows than a weight can count
 pub record Refittable (s : Settings) (count : ℕ) (t : Tree) : Type 0 where
@@ -37,33 +39,33 @@ refit-pourable s count t r h some = record { tree = rest-routable s t (r .rows) 
 module _ (s : Settings) (count : ℕ) (xs : List Float) (t : Tree) where
   -- every node can be made anew
   pub rounds-standing : (top : ℕ) {v : Tree} → Sized s → Pourable s count t → top ≡ length (t .entries) → 0 < top → top ≤ entryCap s
-      → v ≡ refitRounds s (rowsOf count (s .dim) xs) top 0 t → Standing s v × Filled v
+      → v ≡ refitRounds s (greedy s) (rowsOf count (s .dim) xs) top 0 t → Standing s v × Filled v
   unfolding Filled
   rounds-standing top z p q h few e =
       let rows = rows-count count (s .dim) xs in
       let some = p .some in
       let most = p .few in
       let end =
-      rounds-whole s (rowsOf count (s .dim) xs) top (caps-of z) (omega arith) (omega arith) top 0 t (p .tree .whole .0) [] (p .tree .whole .1 .links)
+      rounds-whole s (greedy s) (greedy-names s) (rowsOf count (s .dim) xs) top (caps-of z) (omega arith) (omega arith) top 0 t (p .tree .whole .0) [] (p .tree .whole .1 .links)
       (omega arith) (λ z. absurd (omega arith)) in
       let fewer = end .2 in
       rw e (linked-standing s _ (end .0 .0) (end .0 .1 .links) (omega arith), λ i l. end .0 .1 .links .filled i l)
 
-  pub refit-bare : length (t .entries) ≡ 0 → t ≡ refitted s (rowsOf count (s .dim) xs) t
+  pub refit-bare : length (t .entries) ≡ 0 → t ≡ refitted s (greedy s) (rowsOf count (s .dim) xs) t
   refit-bare e = go (rowsOf count (s .dim) xs)
     where
-      go : (rows : List (List Float)) → t ≡ refitted s rows t
+      go : (rows : List (List Float)) → t ≡ refitted s (greedy s) rows t
       go [] = unfold refitted in refl
       go (x ∷ rows) = unfold refitted in rw (eq-eqb (length (t .entries)) 0 e)
 
-  pub refit-none : count ≡ 0 → t ≡ refitted s (rowsOf count (s .dim) xs) t
+  pub refit-none : count ≡ 0 → t ≡ refitted s (greedy s) (rowsOf count (s .dim) xs) t
   unfolding refitted rowsOf
   refit-none e = rw e
 
   pub refit-is : (top : ℕ) {v : Tree} → ¬ (top ≡ 0) → ¬ (count ≡ 0) → top ≡ length (t .entries)
-      → v ≡ refolded s (refitRounds s (rowsOf count (s .dim) xs) top 0 t) → v ≡ refitted s (rowsOf count (s .dim) xs) t
+      → v ≡ refolded s (refitRounds s (greedy s) (rowsOf count (s .dim) xs) top 0 t) → v ≡ refitted s (greedy s) (rowsOf count (s .dim) xs) t
   refit-is top d f q e = e ∙ go (rowsOf count (s .dim) xs) (rows-count count (s .dim) xs)
     where
-      go : (rows : List (List Float)) → length rows ≡ count → refolded s (refitRounds s rows top 0 t) ≡ refitted s rows t
+      go : (rows : List (List Float)) → length rows ≡ count → refolded s (refitRounds s (greedy s) rows top 0 t) ≡ refitted s (greedy s) rows t
       go [] l = absurd (f (sym l))
       go (x ∷ rows) l = unfold refitted in rw (ne-eqb (length (t .entries)) 0 (λ z. d (q ∙ z)), q)

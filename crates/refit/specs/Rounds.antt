@@ -28,6 +28,8 @@ use Rattle.reinsert.specs.Whole.{Reinsertable}
 use Rattle.reinsert.specs.Thinned.{pruned-standing}
 use Rattle.route.specs.Routing.{Routable}
 use Rattle.pouring.specs.Used.{Afresh}
+use Rattle.rules.specs.Route.{greedy}
+use Rattle.laws.specs.Refitting.Names.{greedy-names}
 
 -- a tree with entries, and some rows for it, no more than a weight can count
 pub record Pourable (s : Settings) (count : ℕ) (t : Tree) : Type 0 where
@@ -52,7 +54,7 @@ placedAgain s r u = elim (not (anyHollow (u .nodes)) && leb 1 r) [ true ↦ afte
 -- the entries made anew: that is the last tree if all are used
 unfoldable pub oneRound : Settings → List (List Float) → ℕ → Tree → After
 oneRound s xs r t =
-    let es = reaccumulated s t xs in
+    let es = reaccumulated s (greedy s) t xs in
     elim (every (λ b. b) (map used es)) [ true ↦ after (withEntries es t) true | false ↦ placedAgain s r (dropped (map used es) (withEntries es t)) ]
 
 -- by what the code finds of the tree w
@@ -73,8 +75,8 @@ module _ (s : Settings) (r : ℕ) {w u : Tree} (d : w ≡ u) {b : Bool} (e : b �
 module _ (s : Settings) (xs : List (List Float)) (r : ℕ) (t : Tree) {v : Tree} {alive : List Bool} {b : Bool} (g : Afresh s xs t v alive b) where
   -- the two ways on
   abbrev ways : Bool → After
-  ways true = after (withEntries (reaccumulated s t xs) t) true
-  ways false = placedAgain s r (dropped (map used (reaccumulated s t xs)) (withEntries (reaccumulated s t xs) t))
+  ways true = after (withEntries (reaccumulated s (greedy s) t xs) t) true
+  ways false = placedAgain s r (dropped (map used (reaccumulated s (greedy s) t xs)) (withEntries (reaccumulated s (greedy s) t xs) t))
 
   pub round-all : b ≡ true → after v true ≡ oneRound s xs r t
   unfolding oneRound
@@ -88,9 +90,9 @@ module _ (s : Settings) (xs : List (List Float)) (r : ℕ) (t : Tree) {v : Tree}
 
 module _ (s : Settings) (xs : List (List Float)) (t : Tree) (p : Pourable s (length xs) t) where
   abbrev thin : Tree
-  thin = dropped (map used (reaccumulated s t xs)) (withEntries (reaccumulated s t xs) t)
+  thin = dropped (map used (reaccumulated s (greedy s) t xs)) (withEntries (reaccumulated s (greedy s) t xs) t)
 
-  same-nodes : thin .nodes ≡ map (pruned (map used (reaccumulated s t xs))) (t .nodes)
+  same-nodes : thin .nodes ≡ map (pruned (map used (reaccumulated s (greedy s) t xs))) (t .nodes)
   unfolding dropped withEntries withNodes
   same-nodes = refl
 
@@ -102,24 +104,24 @@ module _ (s : Settings) (xs : List (List Float)) (t : Tree) (p : Pourable s (len
   thin-again few =
       let w = p .tree .whole in
       let g = w .1 .links in
-      let long = R.len-u xs (p .few) t g in
-      let count = R.count-le (map used (reaccumulated s t xs)) in
-      let flags = length-map (reaccumulated s t xs) used in
-      let all = R.reaccumulated-length s t xs in
+      let long = R.len-u (greedy-names s) xs (p .few) t g in
+      let count = R.count-le (map used (reaccumulated s (greedy s) t xs)) in
+      let flags = length-map (reaccumulated s (greedy s) t xs) used in
+      let all = R.reaccumulated-length s (greedy s) t xs in
       record {
         standing =
-            pruned-standing s t thin (map used (reaccumulated s t xs)) same-nodes same-root (settled-standing s t (w .0) (p .tree .rows) (w .1) few)
-            (record { R = w .0; frame = R.frame-u xs (p .few) t g }) (omega arith);
+            pruned-standing s t thin (map used (reaccumulated s (greedy s) t xs)) same-nodes same-root (settled-standing s t (w .0) (p .tree .rows) (w .1) few)
+            (record { R = w .0; frame = R.frame-u (greedy-names s) xs (p .few) t g }) (omega arith);
         total = length xs;
-        rows = R.rows-u xs (p .few) t g;
-        counted = R.counted-u xs (p .few) t g;
+        rows = R.rows-u (greedy-names s) xs (p .few) t g;
+        counted = R.counted-u (greedy-names s) xs (p .few) t g;
         small = p .few;
-        some = R.pos-u xs (p .few) t g (p .some);
+        some = R.pos-u (greedy-names s) xs (p .few) t g (p .some);
       }
 
   again-pourable : Sized s → Pourable s (length xs) (reinserted s thin)
   again-pourable z = record {
-    tree = record { rows = length xs; whole = R.again-whole xs (p .few) t (p .tree .whole .1 .links) (caps-of z) (p .some) .0 };
+    tree = record { rows = length xs; whole = R.again-whole (greedy-names s) xs (p .few) t (p .tree .whole .1 .links) (caps-of z) (p .some) .0 };
     some = p .some;
     few = p .few;
   }
@@ -127,11 +129,11 @@ module _ (s : Settings) (xs : List (List Float)) (t : Tree) (p : Pourable s (len
   -- so is what a round leaves that was not the last
   next-pourable : (r : ℕ) {v : Tree} → Sized s → after v false ≡ oneRound s xs r t → Pourable s (length xs) v
   unfolding oneRound placedAgain
-  next-pourable r {v} z e = go (every (λ b. b) (map used (reaccumulated s t xs))) (not (anyHollow (thin .nodes)) && leb 1 r) e
+  next-pourable r {v} z e = go (every (λ b. b) (map used (reaccumulated s (greedy s) t xs))) (not (anyHollow (thin .nodes)) && leb 1 r) e
     where
       go : (b c : Bool)
           → after v false ≡ (elim b as (λ _. After) [
-            | true ↦ after (withEntries (reaccumulated s t xs) t) true
+            | true ↦ after (withEntries (reaccumulated s (greedy s) t xs) t) true
             | false ↦ elim c as (λ _. After) [ true ↦ after thin true | false ↦ after (reinserted s thin) false ]
           ])
           → Pourable s (length xs) v
@@ -157,22 +159,22 @@ poured-leaves s n fs gs ls g =
 
 -- what is left of them after a round
 unfoldable goneOn : Settings → List (List Float) → ℕ → ℕ → After → Tree
-goneOn s xs k r a = elim (a .last) [ true ↦ a .tree | false ↦ refitRounds s xs k (suc r) (a .tree) ]
+goneOn s xs k r a = elim (a .last) [ true ↦ a .tree | false ↦ refitRounds s (greedy s) xs k (suc r) (a .tree) ]
 
-round-first : (s : Settings) (xs : List (List Float)) (k r : ℕ) (t : Tree) → refitRounds s xs (suc k) r t ≡ goneOn s xs k r (oneRound s xs r t)
+round-first : (s : Settings) (xs : List (List Float)) (k r : ℕ) (t : Tree) → refitRounds s (greedy s) xs (suc k) r t ≡ goneOn s xs k r (oneRound s xs r t)
 unfolding refitRounds goneOn oneRound placedAgain
-round-first s xs k r t = go (every (λ b. b) (map used (reaccumulated s t xs))) (not (anyHollow (u .nodes)) && leb 1 r)
+round-first s xs k r t = go (every (λ b. b) (map used (reaccumulated s (greedy s) t xs))) (not (anyHollow (u .nodes)) && leb 1 r)
   where
     u : Tree
-    u = dropped (map used (reaccumulated s t xs)) (withEntries (reaccumulated s t xs) t)
+    u = dropped (map used (reaccumulated s (greedy s) t xs)) (withEntries (reaccumulated s (greedy s) t xs) t)
 
     go : (b c : Bool)
         → (_≡_ {A = Tree} (elim b as (λ _. Tree) [
-          | true ↦ withEntries (reaccumulated s t xs) t
-          | false ↦ elim c as (λ _. Tree) [ true ↦ u | false ↦ refitRounds s xs k (suc r) (reinserted s u) ]
+          | true ↦ withEntries (reaccumulated s (greedy s) t xs) t
+          | false ↦ elim c as (λ _. Tree) [ true ↦ u | false ↦ refitRounds s (greedy s) xs k (suc r) (reinserted s u) ]
         ])
         (goneOn s xs k r (elim b as (λ _. After) [
-          | true ↦ after (withEntries (reaccumulated s t xs) t) true
+          | true ↦ after (withEntries (reaccumulated s (greedy s) t xs) t) true
           | false ↦ elim c as (λ _. After) [ true ↦ after u true | false ↦ after (reinserted s u) false ]
         ])))
     go true c = unfold goneOn in refl
@@ -182,26 +184,26 @@ round-first s xs k r t = go (every (λ b. b) (map used (reaccumulated s t xs))) 
 -- of top rounds, `done` have reinserted: the tree u, which was t
 pub record Rounds (s : Settings) (count : ℕ) (xs : List Float) (top : ℕ) (t : Tree) (done : ℕ) (u : Tree) : Type 0 where
   pub tree : Pourable s count u
-  pub left : refitRounds s (rowsOf count (s .dim) xs) (top - done) done u ≡ refitRounds s (rowsOf count (s .dim) xs) top 0 t
+  pub left : refitRounds s (greedy s) (rowsOf count (s .dim) xs) (top - done) done u ≡ refitRounds s (greedy s) (rowsOf count (s .dim) xs) top 0 t
 
 module _ (s : Settings) (count : ℕ) (xs : List Float) (top : ℕ) (t : Tree) where
   pub rounds-start : Pourable s count t → Rounds s count xs top t 0 t
-  rounds-start p = let all : top - 0 ≡ top = omega arith in record { tree = p; left = ap (λ k. refitRounds s (rowsOf count (s .dim) xs) k 0 t) all }
+  rounds-start p = let all : top - 0 ≡ top = omega arith in record { tree = p; left = ap (λ k. refitRounds s (greedy s) (rowsOf count (s .dim) xs) k 0 t) all }
 
   module _ (done : ℕ) (u : Tree) (g : Rounds s count xs top t done u) where
-    pub rounds-end : top ≤ done → u ≡ refitRounds s (rowsOf count (s .dim) xs) top 0 t
+    pub rounds-end : top ≤ done → u ≡ refitRounds s (greedy s) (rowsOf count (s .dim) xs) top 0 t
     unfolding refitRounds
-    rounds-end h = let none : top - done ≡ 0 = omega arith in sym (ap (λ k. refitRounds s (rowsOf count (s .dim) xs) k done u) none) ∙ g .left
+    rounds-end h = let none : top - done ≡ 0 = omega arith in sym (ap (λ k. refitRounds s (greedy s) (rowsOf count (s .dim) xs) k done u) none) ∙ g .left
 
     module _ {v : Tree} {b : Bool} (h : done < top) (e : after v b ≡ oneRound s (rowsOf count (s .dim) xs) done u) where
-      gone : goneOn s (rowsOf count (s .dim) xs) (top - (done + 1)) done (after v b) ≡ refitRounds s (rowsOf count (s .dim) xs) top 0 t
+      gone : goneOn s (rowsOf count (s .dim) xs) (top - (done + 1)) done (after v b) ≡ refitRounds s (greedy s) (rowsOf count (s .dim) xs) top 0 t
       gone =
           let more : suc (top - (done + 1)) ≡ top - done = omega arith in
           ap (goneOn s (rowsOf count (s .dim) xs) (top - (done + 1)) done) e
           ∙ sym (round-first s (rowsOf count (s .dim) xs) (top - (done + 1)) done u)
-          ∙ ap (λ k. refitRounds s (rowsOf count (s .dim) xs) k done u) more ∙ g .left
+          ∙ ap (λ k. refitRounds s (greedy s) (rowsOf count (s .dim) xs) k done u) more ∙ g .left
 
-      pub rounds-last : b ≡ true → v ≡ refitRounds s (rowsOf count (s .dim) xs) top 0 t
+      pub rounds-last : b ≡ true → v ≡ refitRounds s (greedy s) (rowsOf count (s .dim) xs) top 0 t
       unfolding goneOn
       rounds-last q = sym (ap (λ b. goneOn s (rowsOf count (s .dim) xs) (top - (done + 1)) done (after v b)) q) ∙ gone
 
@@ -214,6 +216,6 @@ module _ (s : Settings) (count : ℕ) (xs : List Float) (top : ℕ) (t : Tree) w
                 subst (λ k. Pourable s k v) rows
                 (next-pourable s (rowsOf count (s .dim) xs) u (subst (λ k. Pourable s k u) (sym rows) (g .tree)) done z (ap (after v) (sym q) ∙ e));
             left =
-                ap (λ k. refitRounds s (rowsOf count (s .dim) xs) (top - (done + 1)) k v) (add-one done)
+                ap (λ k. refitRounds s (greedy s) (rowsOf count (s .dim) xs) (top - (done + 1)) k v) (add-one done)
                 ∙ sym (ap (λ b. goneOn s (rowsOf count (s .dim) xs) (top - (done + 1)) done (after v b)) q) ∙ gone;
           }

@@ -10,6 +10,7 @@ ghost use Rattle.rules.specs.Refit.{refitted};
 ghost use Rattle.arena.specs.Trees.{Floats, Links};
 ghost use Rattle.scratch.specs.Stored.{Scratch};
 ghost use Rattle.refit.specs.Refitting.{Refittable};
+ghost use Rattle.rules.specs.Route.{greedy};
 use crate::rounds::rounds;
 use head::Counters;
 use head::Settings;
@@ -31,7 +32,7 @@ pub fn refit(
     ensures { λ r. ⌜ Floats s r (length (now (floats .entry))) × Links s r (length (now (links .entry))) ⌝ }
     ensures { λ r. ⌜
         treeOf s r (now (floats .exit)) (now (links .exit))
-        ≡ refitted s (rowsOf count (s .dim) (now (rows .entry))) (treeOf s n (now (floats .entry)) (now (links .entry))) ⌝ }
+        ≡ refitted s (greedy s) (rowsOf count (s .dim) (now (rows .entry))) (treeOf s n (now (floats .entry)) (now (links .entry))) ⌝ }
 {
     if n.entries == 0 {
         return n;

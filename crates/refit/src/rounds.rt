@@ -15,6 +15,7 @@ ghost use Rattle.merging.specs.Pruning.{LeavesIn};
 ghost use Rattle.reinsert.specs.Whole.{Reinsertable};
 ghost use Rattle.scratch.specs.Stored.{Scratch};
 ghost use Rattle.refit.specs.Rounds.{after, placedAgain, oneRound, Pourable};
+ghost use Rattle.rules.specs.Route.{greedy};
 use arena::links;
 use head::Counters;
 use head::Settings;
@@ -142,7 +143,7 @@ pub fn rounds(
     ensures { λ r. ⌜ Floats s r (length (now (floats .entry))) × Links s r (length (now (links .entry))) ⌝ }
     ensures { λ r. ⌜
         treeOf s r (now (floats .exit)) (now (links .exit))
-        ≡ refitRounds s (rowsOf count (s .dim) (now (rows .entry))) (n .entries) 0 (treeOf s n (now (floats .entry)) (now (links .entry))) ⌝ }
+        ≡ refitRounds s (greedy s) (rowsOf count (s .dim) (now (rows .entry))) (n .entries) 0 (treeOf s n (now (floats .entry)) (now (links .entry))) ⌝ }
 {
     let mut m = n;
     let mut done = 0;

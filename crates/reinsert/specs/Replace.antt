@@ -12,22 +12,23 @@ use Rattle.head.specs.declared.Settings.{Settings}
 use Rattle.head.specs.Limits.{Sized}
 use Rattle.head.specs.Sizes.{entryCap, slotWidth}
 use Rattle.rules.specs.Lists.{table}
-use Rattle.rules.specs.Tree.{Tree}
+use Rattle.rules.specs.Tree.{Tree, rowsIn}
 use Rattle.rules.specs.Slices.{summaryIn}
 use Rattle.rules.specs.Reinsert.{replaced, replacedAll}
-use Rattle.rules.specs.Check.{rowsIn, totalOf}
+use Rattle.rules.specs.Check.{totalOf}
 use Rattle.counting.specs.Lists.{snoc-length}
 use Rattle.laws.specs.Invariant.Sound.{caps-of}
-use Rattle.laws.specs.Inserting.First.{Ready, place-ready}
+use Rattle.laws.specs.Inserting.First.{Holding}
+use Rattle.laws.specs.Inserting.Items.{replaced-holds}
 use Rattle.laws.specs.Rebuilding.Reinsert.{Rows, place-entries}
 use Rattle.arena.specs.Numbered.{SlotIn, summaryAt, cut, slot-cut}
 use Rattle.grow.specs.Room.{Placeable}
 use Rattle.scratch.specs.Slots.{slotsIn, length-slots, slots-back}
 
--- a tree that is ready for the summaries es, each of some rows, with room for all
+-- a tree that takes the summaries es, each of some rows, with room for all
 pub record Replaceable (s : Settings) (t : Tree) (es : List Summary) : Type 0 where
   pub total : ℕ
-  pub ready : Ready s t total
+  pub holds : Holding s t total
   pub rows : Rows es
   pub few : total + totalOf es ≤ most
   pub room : length (t .entries) + length es ≤ entryCap s
@@ -37,8 +38,7 @@ module _ (s : Settings) (t : Tree) (e : Summary) (es : List Summary) (g : Replac
   unfolding totalOf
   first = record {
     total = g .total;
-    rows = rowsIn e;
-    ready = g .ready;
+    holds = g .holds;
     exact = g .rows .0;
     some = g .rows .1;
     few = (let a = g .few in omega arith);
@@ -53,7 +53,7 @@ module _ (s : Settings) (t : Tree) (e : Summary) (es : List Summary) (g : Replac
       let more : length (replaced s e t .entries) ≡ suc (length (t .entries)) = ap (λ l. length l) (place-entries s e t) ∙ snoc-length (t .entries) e in
       record {
         total = g .total + rowsIn e;
-        ready = inr (place-ready s e t (rowsIn e) (g .total) (caps-of z) (g .ready) (g .rows .0) (g .rows .1) (omega arith));
+        holds = inr (replaced-holds s e t (g .total) (caps-of z) (g .holds) (g .rows .0) (g .rows .1) (omega arith));
         rows = g .rows .2;
         few = omega arith;
         room = omega arith;

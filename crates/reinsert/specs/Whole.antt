@@ -1,8 +1,7 @@
 -- A tree with its nodes forgotten, and what a tree has to be so that all its entries are placed again.
 use Prim.Native.Nat.{ℕ, _≤_, _<_}
-use mathlib.Core.Path.{_≡_, refl, ap, _∙_}
+use mathlib.Core.Path.{_≡_, ap, _∙_}
 use mathlib.Core.Bool.{true}
-use mathlib.Core.Logic.{inl}
 use mathlib.Core.List.{List, [], reverse}
 use mathlib.Core.Option.{none}
 use native.Mathlib.Omega.{arith}
@@ -20,10 +19,10 @@ use Rattle.rules.specs.Lists.{changeAt, snoc, table}
 use Rattle.rules.specs.Tree.{Tree, blankNode, entryAt, summed, withNodes}
 use Rattle.rules.specs.Slices.{treeOf}
 use Rattle.rules.specs.Reinsert.{cleared, replacedAll, reinserted}
-use Rattle.laws.specs.Invariant.Weights.{IsExact, blank-exact}
+use Rattle.laws.specs.Invariant.Weights.{IsExact}
 use Rattle.laws.specs.Invariant.Sound.{entryWeight, caps-of}
 use Rattle.laws.specs.Inserting.Grown.{Counted}
-use Rattle.laws.specs.Rebuilding.Reinsert.{list-rows, list-total, list-length}
+use Rattle.laws.specs.Rebuilding.Reinsert.{list-rows, list-total, list-length, cleared-holds}
 use Rattle.laws.specs.ForCode.{Standing}
 use Rattle.stretch.specs.Blocks.{relinked, nodeOf}
 use Rattle.arena.specs.Numbered.{Relinked}
@@ -84,7 +83,7 @@ module _ (s : Settings) (t : Tree) {es : List Summary} {u : Tree} (g : Reinserta
       rw (p, q)
       record {
         total = 0;
-        ready = inl (blank, blank-exact, refl, refl);
+        holds = cleared-holds s t;
         rows = list-rows t (g .total) caps frame (g .rows) (g .counted) (g .small) (g .some);
         few = omega arith;
         room = omega arith;

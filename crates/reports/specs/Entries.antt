@@ -20,8 +20,8 @@ use Rattle.head.specs.declared.Settings.{Settings}
 use Rattle.head.specs.declared.Counters.{Counters}
 use Rattle.head.specs.Heads.{settingsOf}
 use Rattle.head.specs.Limits.{Sized}
-use Rattle.rules.specs.Tree.{Tree, entryAt}
-use Rattle.rules.specs.Check.{rowsIn, totalOf}
+use Rattle.rules.specs.Tree.{Tree, entryAt, rowsIn}
+use Rattle.rules.specs.Check.{totalOf}
 use Rattle.rules.specs.Calls.{lentTree}
 use Rattle.rules.specs.Slices.{treeOf}
 use Rattle.rules.specs.Listing.{decimalOf, hexOf, lineOf, entryLine, entryLines, report}

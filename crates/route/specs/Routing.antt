@@ -12,13 +12,13 @@ use Rattle.head.specs.declared.Counters.{Counters}
 use Rattle.rules.specs.Tree.{Tree, distTo, nodeAt, entryAt}
 use Rattle.rules.specs.Slices.{treeOf}
 use Rattle.rules.specs.Descent.{closest, leafFor}
-use Rattle.rules.specs.Refit.{route}
 use Rattle.laws.specs.Inserting.Grown.{Whole}
-use Rattle.laws.specs.Inserting.First.{Holding}
+use Rattle.laws.specs.Inserting.First.{Holding, leaf-of}
 use Rattle.laws.specs.Check.Both.{AtRest}
-use Rattle.laws.specs.ForCode.{Sure, sure-of, leaf-of}
+use Rattle.laws.specs.ForCode.{Sure, sure-of}
 use Rattle.arena.specs.Trees.{ChildrenIn, count-nodes}
 use Rattle.listed.specs.Sure.{children-in}
+use Rattle.rules.specs.Route.{greedy}
 
 -- a tree that holds so many rows, and so has entries
 pub record Routable (s : Settings) (t : Tree) : Type 0 where
@@ -49,6 +49,6 @@ module _ (s : Settings) (n : Counters) (fs : List Float) (ls : List ℕ) (x : Li
       (rw e (leaf-of s (treeOf s n fs ls) (g .rows) (λ c. distTo s c x) (inr (g .whole)) .1)))
 
   -- the closest of them
-  pub route-is : {r : ℕ} → r ≡ closest (λ e. distTo s (entryAt (treeOf s n fs ls) e) x) list → r ≡ route s (treeOf s n fs ls) x
-  unfolding route
+  pub route-is : {r : ℕ} → r ≡ closest (λ e. distTo s (entryAt (treeOf s n fs ls) e) x) list → r ≡ greedy s (treeOf s n fs ls) x
+  unfolding greedy
   route-is p = p ∙ rw (q, e)

@@ -6,13 +6,13 @@ ghost use lib.ListN.{length};
 ghost use Rattle.rules.specs.Tree.{distTo, entryAt};
 ghost use Rattle.rules.specs.Slices.{treeOf};
 ghost use Rattle.rules.specs.Descent.{closest};
-ghost use Rattle.rules.specs.Refit.{route};
 ghost use Rattle.arena.specs.Trees.{AnyLinks, Floats, Links, ChildrenIn};
 ghost use Rattle.route.specs.Routing.{Routable};
+ghost use Rattle.rules.specs.Route.{greedy};
 use arena::entries;
 use arena::links;
 use descent::descend;
-use descent::item::Item;
+use descent::form::Form;
 use head::Counters;
 use head::Settings;
 
@@ -42,9 +42,9 @@ fn closest_entry(s: Settings, n: Counters, floats: &[f64], list: &[u32], row: &[
 pub fn route(s: Settings, n: Counters, floats: &[f64], links: &[u32], row: &[f64]) -> usize
     requires { ⌜ Floats s n (length (now floats)) × Links s n (length (now links)) × (s .dim ≤ length (now row)) ⌝ }
     requires { ⌜ Routable s (treeOf s n (now floats) (now links)) ⌝ }
-    ensures { λ r. ⌜ r ≡ route s (treeOf s n (now (floats .entry)) (now (links .entry))) (now (row .entry)) ⌝ }
+    ensures { λ r. ⌜ r ≡ greedy s (treeOf s n (now (floats .entry)) (now (links .entry))) (now (row .entry)) ⌝ }
     ensures { λ r. ⌜ r < n .entries ⌝ }
 {
-    let leaf = descend(s, n, floats, links, Item::Row, row);
+    let leaf = descend(s, n, floats, links, Form::Row, row);
     closest_entry(s, n, floats, links::list(s, n, links, leaf), row)
 }

@@ -22,7 +22,6 @@ use Rattle.head.specs.declared.refusal.Answer.the-variants.{Accepted, Refused}
 use Rattle.rules.specs.Lists.{every, rowsOf}
 use Rattle.rules.specs.ListLaws.{length-table}
 use Rattle.rules.specs.Tree.{Tree}
-use Rattle.rules.specs.Rebuild.{insertedAll}
 use Rattle.rules.specs.Refit.{refitted}
 use Rattle.rules.specs.Check.{checked, totalOf}
 use Rattle.rules.specs.Slices.{treeOf, countersOf}
@@ -30,6 +29,7 @@ use Rattle.rules.specs.Calls.{unless, answerOf, settingsRefusal, roomRef
 use Rattle.rules.specs.RefusalLaws.{accepted-none, none-both, unless-none, tree-none, room-none, row-shape-none, batch-shape-none, empty-none, insert-full-none, refit-full-none, output-none}
 use Rattle.rules.specs.declared.Verdict.the-variants.{Passes}
 use Rattle.rules.specs.CheckLaws.{passes-total}
+use Rattle.rules.specs.Rows.{insertedAll}
 
 -- ---- a refused call
 

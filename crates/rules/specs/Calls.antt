@@ -19,13 +19,15 @@ use Rattle.head.specs.declared.refusal.Answer.{Answer}
 use Rattle.head.specs.declared.refusal.Answer.the-variants.{Accepted, Refused}
 use Rattle.rules.specs.Lists.{joined, rowsOf}
 use Rattle.rules.specs.Tree.{Tree, fresh}
-use Rattle.rules.specs.Rebuild.{inserted, insertedAll}
-use Rattle.rules.specs.Refit.{route, refitted, spreadOf}
+use Rattle.rules.specs.Refit.{refitted}
 use Rattle.rules.specs.Check.{checked, totalOf}
 use Rattle.rules.specs.Slices.{treeOf, countersOf, floatsOf, linksOf}
 use Rattle.rules.specs.declared.Verdict.{Verdict}
 use Rattle.rules.specs.declared.Verdict.the-variants.{Passes, Fails}
 use Rattle.rules.specs.declared.Places.{Places}
+use Rattle.rules.specs.Route.{greedy}
+use Rattle.rules.specs.Spread.{spreadOf}
+use Rattle.rules.specs.Rows.{inserted, insertedAll}
 
 -- ---- the refusals that apply, in order of checking; the first is given
 
@@ -238,7 +240,7 @@ unfoldable pub batchRefitted : Head → Lent → List Float → Left
 batchRefitted h l xs =
     let s = settingsOf h in
     let t = lentTree h (l .floats) (l .links) in
-    settle (refitRefusals h l xs) h l (changed h l (refitted s (rowsOf (length xs / s .dim) (s .dim) xs) t))
+    settle (refitRefusals h l xs) h l (changed h l (refitted s (greedy s) (rowsOf (length xs / s .dim) (s .dim) xs) t))
 
 -- ---- calls that change nothing but an output
 
@@ -255,7 +257,7 @@ module _ {A : Type 0} where
 unfoldable pub routed : Head → List Float → List ℕ → List Float → List ℕ → Written ℕ
 routed h fs ls xs out =
     let s = settingsOf h in
-    write (routeRefusals h fs ls xs out) (map (route s (lentTree h fs ls)) (rowsOf (length xs / s .dim) (s .dim) xs)) out
+    write (routeRefusals h fs ls xs out) (map (greedy s (lentTree h fs ls)) (rowsOf (length xs / s .dim) (s .dim) xs)) out
 
 -- dim numbers an entry to the front of the output
 unfoldable pub spreadWritten : Head → List Float → List ℕ → List Float → Written Float

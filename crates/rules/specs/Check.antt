@@ -5,14 +5,14 @@ use mathlib.Core.List.{List, [], _∷_, _++_, map}
 use mathlib.Core.Option.{Option, none, some}
 use lib.ListN.{length}
 use lib.Dec.{T, leb, ltb, eqb}
-use lib.Ieee.{eq, toUnsigned}
+use lib.Ieee.{eq}
 use Rattle.binary64.specs.Whole.{whole, most}
 use Rattle.binary64.specs.Counts.{isCount}
 use Rattle.feature.specs.declared.Summary.{Summary}
 use Rattle.head.specs.declared.Settings.{Settings}
 use Rattle.head.specs.Sizes.{nodeCap}
 use Rattle.rules.specs.Lists.{every, joined, upFrom, occurs}
-use Rattle.rules.specs.Tree.{Node, Tree, nodeAt, entryAt, cap}
+use Rattle.rules.specs.Tree.{Node, Tree, nodeAt, entryAt, cap, rowsIn}
 use Rattle.rules.specs.Reinsert.{collected}
 use Rattle.rules.specs.declared.Verdict.{Verdict}
 use Rattle.rules.specs.declared.Verdict.the-variants.{Passes, Fails}
@@ -94,9 +94,6 @@ unfoldable pub level : Tree → Bool
 level t = every (sameKind t) (levels t) && growing (levels t)
 
 -- 7. Entry weights are whole, 1 to 2^53; each node's weight is the sum of the entry weights beneath it; the total is at most 2^53.
-unfoldable pub rowsIn : Summary → ℕ
-rowsIn e = toUnsigned 64 (e .weight)
-
 unfoldable pub totalOf : List Summary → ℕ
 totalOf [] = 0
 totalOf (e ∷ es) = rowsIn e + totalOf es

@@ -14,11 +14,13 @@ use Rattle.head.specs.declared.Settings.{Settings}
 use Rattle.head.specs.declared.refusal.Refusal.{Refusal}
 use Rattle.rules.specs.Lists.{joined, rowsOf}
 use Rattle.rules.specs.Tree.{Node, Tree}
-use Rattle.rules.specs.Rebuild.{inserted, insertedAll}
-use Rattle.rules.specs.Refit.{route, refitted, spreadOf}
+use Rattle.rules.specs.Refit.{refitted}
 use Rattle.rules.specs.Check.{checked}
 use Rattle.rules.specs.Slices.{eight}
 use Rattle.rules.specs.Calls.{treeRefusal, rowAsked, batchAsked, refitAsked, routeAsked, spreadAsked}
+use Rattle.rules.specs.Route.{greedy}
+use Rattle.rules.specs.Spread.{spreadOf}
+use Rattle.rules.specs.Rows.{inserted, insertedAll}
 
 -- ---- numbers for values
 
@@ -79,10 +81,10 @@ step s t (Insert x) = change (treeRefusal (checked s t) ++ rowAsked s t (floats 
 step s t (Batch xs) =
     change (treeRefusal (checked s t) ++ batchAsked s t (floats xs)) t (insertedAll s (rowsOf (length xs / s .dim) (s .dim) (floats xs)) t)
 step s t (Refit xs) =
-    change (treeRefusal (checked s t) ++ refitAsked s t (floats xs)) t (refitted s (rowsOf (length xs / s .dim) (s .dim) (floats xs)) t)
+    change (treeRefusal (checked s t) ++ refitAsked s t (floats xs)) t (refitted s (greedy s) (rowsOf (length xs / s .dim) (s .dim) (floats xs)) t)
 step s t (Route xs) =
     let n = length xs / s .dim in
-    look (treeRefusal (checked s t) ++ routeAsked s t (floats xs) (replicate n 0)) t (map (route s t) (rowsOf n (s .dim) (floats xs)) ∷ [])
+    look (treeRefusal (checked s t) ++ routeAsked s t (floats xs) (replicate n 0)) t (map (greedy s t) (rowsOf n (s .dim) (floats xs)) ∷ [])
 step s t Spread =
     look (treeRefusal (checked s t) ++ spreadAsked s t (replicate (length (t .entries) * s .dim) f0)) t
     (map bits (joined (map (spreadOf (s .feature) (s .dim)) (t .entries))) ∷ [])

@@ -25,7 +25,6 @@ use Rattle.head.specs.Limits.{Sized, allowed-sized}
 use Rattle.head.specs.Sizes.{nodeCap, slotWidth, blockWidth, linksNeeded}
 use Rattle.rules.specs.Lists.{every, rowsOf}
 use Rattle.rules.specs.Tree.{Tree, nodeAt, entryAt}
-use Rattle.rules.specs.Rebuild.{insertedAll}
 use Rattle.rules.specs.Refit.{refitted}
 use Rattle.rules.specs.Slices.{stretch, filledTo, eight, summaryIn, summaryOut, noParent, parentIn, parentOut, leafIn, lengthIn, kindOut, nodeIn, blockOut, slotAt, blockAt}
 use Rattle.rules.specs.ListLaws.{below?}
@@ -36,6 +35,8 @@ use Rattle.rules.specs.CallLaws.{accepted-done, Ready, change-ready, hea
 use Rattle.rules.specs.Fronted.{past-at, stretch-at}
 use Rattle.rules.specs.Cleared.{node-word, entry-word, block-word, Clears, changed-clears}
 use Rattle.rules.specs.Held.{list-few, cap-in, in-shaped, node-held, entry-held, in-nodes, in-entries, held-fits}
+use Rattle.rules.specs.Route.{greedy}
+use Rattle.rules.specs.Rows.{insertedAll}
 
 -- ---- a lent tree stored again: every word below the counts is as lent
 
@@ -209,7 +210,7 @@ no-rows : (s : Settings) (t : Tree) → insertedAll s (rowsOf (0 / s .dim) (s .d
 unfolding insertedAll rowsOf
 no-rows s t = rw (zero-div (s .dim))
 
-refit-idle : (s : Settings) (n : ℕ) (xs : List Float) (t : Tree) → (n ≡ 0) ⊎ (length (t .entries) ≡ 0) → refitted s (rowsOf n (s .dim) xs) t ≡ t
+refit-idle : (s : Settings) (n : ℕ) (xs : List Float) (t : Tree) → (n ≡ 0) ⊎ (length (t .entries) ≡ 0) → refitted s (greedy s) (rowsOf n (s .dim) xs) t ≡ t
 unfolding refitted rowsOf
 refit-idle s zero xs t w = refl
 refit-idle s (suc n) xs t (inl e) = absurd (omega arith)

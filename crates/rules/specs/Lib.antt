@@ -8,7 +8,10 @@ pub mod Pairs
 pub mod Reinsert
 pub mod Refold
 pub mod Rebuild
+pub mod Rows
+pub mod Route
 pub mod Refit
+pub mod Spread
 pub mod Check
 pub mod CheckLaws
 pub mod Slices

@@ -15,10 +15,10 @@ use Rattle.head.specs.Limits.{allowed}
 use Rattle.head.specs.declared.Head.{Head}
 use Rattle.head.specs.declared.Settings.{Settings}
 use Rattle.head.specs.declared.refusal.Refusal.{Refusal}
-use Rattle.rules.specs.Tree.{Tree, fresh}
-use Rattle.rules.specs.Rebuild.{inserted}
-use Rattle.rules.specs.Check.{rowsIn, totalOf}
+use Rattle.rules.specs.Tree.{Tree, fresh, rowsIn}
+use Rattle.rules.specs.Check.{totalOf}
 use Rattle.rules.specs.Calls.{rowAsked}
+use Rattle.rules.specs.Rows.{inserted}
 
 -- ---- bytes of a text
 

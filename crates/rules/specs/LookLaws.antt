@@ -25,7 +25,6 @@ use Rattle.head.specs.declared.refusal.Refusal.{Refusal}
 use Rattle.head.specs.declared.refusal.Answer.the-variants.{Accepted, Refused}
 use Rattle.rules.specs.Lists.{joined, rowsOf}
 use Rattle.rules.specs.Tree.{Tree, entryAt}
-use Rattle.rules.specs.Refit.{route, spreadOf}
 use Rattle.rules.specs.Slices.{eight, summaryIn, slotAt, treeOf}
 use Rattle.rules.specs.ListLaws.{length-table, EachLong, length-joined, piece-at, rows-count, rows-at, map-at}
 use Rattle.rules.specs.Calls.{fronted, lentTree, treeRefusals, spreadRefusals, write, routed, spreadWritten, listedBy, listed}
@@ -35,6 +34,8 @@ use Rattle.rules.specs.Stored.{slots-in}
 use Rattle.rules.specs.Fronted.{front-new, behind-old, stretch-at}
 use Rattle.rules.specs.Held.{in-shaped, entry-held, in-entries}
 use Rattle.rules.specs.declared.Places.{Places}
+use Rattle.rules.specs.Route.{greedy}
+use Rattle.rules.specs.Spread.{spreadOf}
 
 -- ---- an output
 
@@ -83,23 +84,23 @@ module _ (h : Head) (fs : List Float) (ls : List ℕ) where
     route-refused r e = write-refused _ _ out r e
 
     module _ (e : routed h fs ls xs out .answer ≡ Accepted) where
-      route-output : routed h fs ls xs out .output ≡ fronted (map (route s t) (rowsOf (length xs / s .dim) (s .dim) xs)) out
+      route-output : routed h fs ls xs out .output ≡ fronted (map (greedy s t) (rowsOf (length xs / s .dim) (s .dim) xs)) out
       unfolding routed
       route-output = write-accepted _ _ out e .1
 
-      routes-long : length (map (route s t) (rowsOf (length xs / s .dim) (s .dim) xs)) ≡ length xs / s .dim
-      routes-long = length-map (rowsOf (length xs / s .dim) (s .dim) xs) (route s t) ∙ rows-count (length xs / s .dim) (s .dim) xs
+      routes-long : length (map (greedy s t) (rowsOf (length xs / s .dim) (s .dim) xs)) ≡ length xs / s .dim
+      routes-long = length-map (rowsOf (length xs / s .dim) (s .dim) xs) (greedy s t) ∙ rows-count (length xs / s .dim) (s .dim) xs
 
       -- an accepted one writes an entry number a row to its front
-      pub route-front : (i d : ℕ) → i < length xs / s .dim → getD (routed h fs ls xs out .output) i d ≡ route s t (take (s .dim) (drop (i * s .dim) xs))
+      pub route-front : (i d : ℕ) → i < length xs / s .dim → getD (routed h fs ls xs out .output) i d ≡ greedy s t (take (s .dim) (drop (i * s .dim) xs))
       route-front i d a =
           let n = length xs / s .dim in
           let long = routes-long in
           let count = rows-count n (s .dim) xs in
           ap (λ l. getD l i d) route-output
-          ∙ front-new (map (route s t) (rowsOf n (s .dim) xs)) out i d (omega arith)
-          ∙ map-at (route s t) (rowsOf n (s .dim) xs) i [] d (omega arith)
-          ∙ ap (route s t) (rows-at n (s .dim) i xs a)
+          ∙ front-new (map (greedy s t) (rowsOf n (s .dim) xs)) out i d (omega arith)
+          ∙ map-at (greedy s t) (rowsOf n (s .dim) xs) i [] d (omega arith)
+          ∙ ap (greedy s t) (rows-at n (s .dim) i xs a)
 
       -- and nothing else
       pub route-rest : (i d : ℕ) → length xs / s .dim ≤ i → getD (routed h fs ls xs out .output) i d ≡ getD out i d

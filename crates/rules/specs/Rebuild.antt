@@ -13,7 +13,6 @@ use Rattle.feature.specs.declared.Summary.{Summary}
 use Rattle.head.specs.declared.Settings.{Settings}
 use Rattle.rules.specs.Lists.{changeAt, keep, countUp}
 use Rattle.rules.specs.Tree.{Node, Tree, merge, absBetween, withNodes, withEntries, onRunning, listing}
-use Rattle.rules.specs.Insert.{grown}
 use Rattle.rules.specs.Pairs.{siblings, cousins, sorted}
 use Rattle.rules.specs.declared.Pair.{Pair}
 use Rattle.rules.specs.Reinsert.{reinserted}
@@ -122,13 +121,3 @@ counted t = onRunning (λ r. withRebuilds (oneMore (r .rebuilds)) r) t
 
 unfoldable pub rebuilt : Settings → Tree → Tree
 rebuilt s t = counted (refolded s (mergedWith s (siblings s t (t .nodes)) t))
-
--- ---- rows
-
-unfoldable pub inserted : Settings → List Float → Tree → Tree
-inserted s x t = let u = grown s x t in cond (ltb (s .«max_leaves») (length (u .entries))) (rebuilt s u) u
-
--- all rows one after the other
-unfoldable pub insertedAll : Settings → List (List Float) → Tree → Tree
-insertedAll s [] t = t
-insertedAll s (x ∷ xs) t = insertedAll s xs (inserted s x t)

@@ -5,10 +5,10 @@ use mathlib.Core.List.{List, [], _∷_, _++_, map, reverse}
 use lib.ListN.{length}
 use Rattle.feature.specs.declared.Summary.{Summary}
 use Rattle.head.specs.declared.Settings.{Settings}
-use Rattle.rules.specs.Tree.{Tree, merge, distBetween, blankNode, nodeAt, entryAt}
+use Rattle.rules.specs.Tree.{Tree, blankNode, nodeAt, entryAt}
 use Rattle.rules.specs.Descent.{leafFor, alongPath}
 use Rattle.rules.specs.Split.{settled}
-use Rattle.rules.specs.Insert.{begun}
+use Rattle.rules.specs.Insert.{summaryItem, begun}
 
 -- the entries' numbers below the nodes ns, from the first leaf to the last; k nodes at most
 unfoldable pub collected : Tree → ℕ → List ℕ → List ℕ
@@ -23,8 +23,9 @@ cleared t = record { nodes = blankNode ∷ []; entries = []; root = 0; running =
 -- the summary e as a new entry, in the leaf that `dist` leads to
 unfoldable pub replaced : Settings → Summary → Tree → Tree
 replaced s e t =
-    let l = leafFor t (λ c. distBetween s c e) in
-    settled s l (begun l e (alongPath (λ c. merge s c e) l t))
+    let i = summaryItem s e in
+    let l = leafFor t (i .near) in
+    settled s l (begun l (i .alone) (alongPath (i .taken) l t))
 
 unfoldable pub replacedAll : Settings → List Summary → Tree → Tree
 replacedAll s [] t = t

@@ -15,8 +15,8 @@ use Rattle.head.specs.declared.Head.{Head}
 use Rattle.head.specs.declared.Settings.{Settings}
 use Rattle.head.specs.declared.refusal.Answer.{Answer}
 use Rattle.head.specs.declared.refusal.Answer.the-variants.{Accepted, Refused}
-use Rattle.rules.specs.Tree.{Node, Tree, nodeAt}
-use Rattle.rules.specs.Check.{rowsIn, totalOf}
+use Rattle.rules.specs.Tree.{Node, Tree, nodeAt, rowsIn}
+use Rattle.rules.specs.Check.{totalOf}
 use Rattle.rules.specs.Calls.{Left, lentTree, created, rowInserted}
 use Rattle.rules.specs.Listing.{rowlist}
 

@@ -4,7 +4,7 @@ use mathlib.Core.Bool.{Bool, true, false}
 use mathlib.Core.List.{List, [], _∷_}
 use mathlib.Core.Option.{Option, none, some}
 use lib.ListN.{getD}
-use lib.Ieee.{Float}
+use lib.Ieee.{Float, toUnsigned}
 use Rattle.feature.specs.Summaries.{blank}
 use Rattle.feature.specs.Steps.{pushed, merged}
 use Rattle.feature.specs.declared.Summary.{Summary}
@@ -46,6 +46,10 @@ distBetween s a b = betweenOf (s .dist) (s .feature) (s .dim) a b
 
 abbrev pub absBetween : Settings → Summary → Summary → Float
 absBetween s a b = betweenOf (s .abs) (s .feature) (s .dim) a b
+
+-- the rows that a summary's weight stands for
+unfoldable pub rowsIn : Summary → ℕ
+rowsIn e = toUnsigned 64 (e .weight)
 
 -- ---- reading
 

@@ -8,8 +8,8 @@ use lib.ListN.{length}
 use Rattle.binary64.specs.Counts.{isCount}
 use Rattle.binary64.specs.Whole.{whole, most}
 use Rattle.rules.specs.Lists.{every, upFrom}
-use Rattle.rules.specs.Tree.{Tree, nodeAt, child}
-use Rattle.rules.specs.Check.{rowsIn, totalOf}
+use Rattle.rules.specs.Tree.{Tree, nodeAt, child, rowsIn}
+use Rattle.rules.specs.Check.{totalOf}
 
 unfoldable pub rowsListed : Tree → ℕ → ℕ
 rowsListed t i = totalOf (map (child t (nodeAt t i .leaf)) (nodeAt t i .list))

@@ -16,8 +16,8 @@ use Rattle.binary64.specs.Range.{Ranged, ranged}
 use Rattle.feature.specs.Summaries.{blank}
 use Rattle.head.specs.declared.Settings.{Settings}
 use Rattle.head.specs.declared.Counters.{Counters}
-use Rattle.rules.specs.Tree.{Tree, blankNode, nodeAt, entryAt, child}
-use Rattle.rules.specs.Check.{known, rowsIn, totalOf}
+use Rattle.rules.specs.Tree.{Tree, blankNode, nodeAt, entryAt, child, rowsIn}
+use Rattle.rules.specs.Check.{known, totalOf}
 use Rattle.rules.specs.Slices.{treeOf}
 use Rattle.arena.specs.Trees.{Floats, Links, ChildIn, count-nodes, count-entries}
 use Rattle.counting.specs.Sums.{sumTo}

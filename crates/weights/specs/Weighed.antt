@@ -18,8 +18,8 @@ use Rattle.feature.specs.declared.Summary.{Summary}
 use Rattle.feature.specs.Summaries.{blank}
 use Rattle.head.specs.declared.Settings.{Settings}
 use Rattle.rules.specs.Lists.{every, upFrom}
-use Rattle.rules.specs.Tree.{Tree, nodeAt, entryAt, blankNode, child}
-use Rattle.rules.specs.Check.{rooted, listFits, linked, loneRoot, filled, level, rowsIn, totalOf, weighs, weighed}
+use Rattle.rules.specs.Tree.{Tree, nodeAt, entryAt, blankNode, child, rowsIn}
+use Rattle.rules.specs.Check.{rooted, listFits, linked, loneRoot, filled, level, totalOf, weighs, weighed}
 use Rattle.rules.specs.Reinsert.{collected}
 use Rattle.counting.specs.Count.{same?}
 use Rattle.counting.specs.Sums.{over, sumTo}

@@ -9,16 +9,17 @@ use lib.Ieee.{Float}
 use Rattle.head.specs.declared.Settings.{Settings}
 use Rattle.rules.specs.Lists.{rowsOf}
 use Rattle.rules.specs.Tree.{Tree}
-use Rattle.rules.specs.Rebuild.{inserted, insertedAll}
 use Rattle.rules.specs.Refit.{refitted}
 use Rattle.insert.specs.Resting.{Resting}
 use Rattle.refit.specs.Refitting.{Refittable}
 use Rattle.work.specs.declared.Work.{Work}
 use Rattle.work.specs.declared.Work.the-variants.{Insert, Refit}
+use Rattle.rules.specs.Route.{greedy}
+use Rattle.rules.specs.Rows.{inserted, insertedAll}
 
 unfoldable pub worked : Work → Settings → List (List Float) → Tree → Tree
 worked Insert s rows t = insertedAll s rows t
-worked Refit s rows t = refitted s rows t
+worked Refit s rows t = refitted s (greedy s) rows t
 
 -- a row is a batch of one
 pub one-row : (s : Settings) (x : List Float) (t : Tree) → length x ≡ s .dim → worked Insert s (rowsOf 1 (s .dim) x) t ≡ inserted s x t
@@ -44,6 +45,6 @@ module _ (s : Settings) (t : Tree) {w : Work} where
     unfolding Workable
     refit-asks a = rw e at a
 
-    pub refit-does : (rows : List (List Float)) → refitted s rows t ≡ worked w s rows t
+    pub refit-does : (rows : List (List Float)) → refitted s (greedy s) rows t ≡ worked w s rows t
     unfolding worked
     refit-does rows = rw e

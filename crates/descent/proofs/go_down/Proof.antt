@@ -6,19 +6,19 @@ use native.Mathlib.Omega.{arith}
 use borrow.Author.Needs.{needs}
 use Rattle.rules.specs.Slices.{treeOf}
 use Rattle.rules.specs.Descent.{closest, descended, leafFor}
-use Rattle.descent.specs.Items.{distanceTo, nodeDistance}
+use Rattle.descent.specs.Forms.{itemOf, nodeDistance}
 use Rattle.listed.specs.Sure.{root-there, list-filled, children-in}
 use Rattle.descent.specs.Paths.{down-start, down-leaf, down-on, down-end}
 use Rattle.descent.proofs.go_down.Statement.{statement}
 use Rattle.descent.proofs.go_down.Tie as tie
 
 abbrev Inv-loop : tie.InvT-loop
-Inv-loop s n floats links item x i₀ left₀ i left =
+Inv-loop s n floats links form x i₀ left₀ i left =
     let t = treeOf s n floats links in
-    (i < n .nodes) × (descended t (distanceTo s item x) left i ≡ leafFor t (distanceTo s item x))
+    (i < n .nodes) × (descended t (itemOf s form x .near) left i ≡ leafFor t (itemOf s form x .near))
 
 abbrev μ-loop : tie.MeasureT-loop
-μ-loop s n floats links item x i₀ left₀ i left = left
+μ-loop s n floats links form x i₀ left₀ i left = left
 
 -- the start, from a turn's first answer
 abbrev turn : tie.After-is-leaf Inv-loop μ-loop → tie.Start Inv-loop μ-loop
@@ -55,7 +55,7 @@ loop-again c =
     let start = turn (c .before .before .before) in
     let a = start .args in
     let loop = c .before .before .before .before .before .loop in
-    let f = nodeDistance (a .s) (a .item) (a .x .now) (treeOf (a .s) (a .n) (a .floats .now) (a .links .now)) in
+    let f = nodeDistance (a .s) (a .form) (a .x .now) (treeOf (a .s) (a .n) (a .floats .now) (a .links .now)) in
     let near = c .nearest-child .ensures .0 (a .links .now) ∙ ap (closest f) (c .before .list .ensures (a .floats .now)) in
     let inner = sym (c .before .before .before .is-leaf .ensures (a .floats .now)) ∙ c .before .before .if1 .left in
     (c .nearest-child .ensures .1, down-on _ _ (loop .left) (loop .i) (omega arith) inner near ∙ loop .inv .1)

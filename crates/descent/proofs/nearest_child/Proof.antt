@@ -7,19 +7,19 @@ use borrow.Author.Needs.{needs}
 use lib.ListN.{length}
 use Rattle.rules.specs.Descent.{closest}
 use Rattle.arena.specs.Trees.{AnyLinks}
-use Rattle.descent.specs.Items.{nodeDistance}
+use Rattle.descent.specs.Forms.{nodeDistance}
 use Rattle.listed.specs.Sure.{node-listed}
 use Rattle.descent.specs.Nearest.{nearestFrom, nearest-start, nearest-taken, nearest-left, nearest-end}
 use Rattle.descent.proofs.nearest_child.Statement.{statement}
 use Rattle.descent.proofs.nearest_child.Tie as tie
 
 abbrev Inv-loop : tie.InvT-loop
-Inv-loop s n floats list item x best₀ least₀ k₀ best least k =
+Inv-loop s n floats list form x best₀ least₀ k₀ best least k =
     (best < n .nodes)
-    × AnyLinks s n floats (λ t. nearestFrom (nodeDistance s item x t) list k best least ≡ closest (nodeDistance s item x t) list)
+    × AnyLinks s n floats (λ t. nearestFrom (nodeDistance s form x t) list k best least ≡ closest (nodeDistance s form x t) list)
 
 abbrev μ-loop : tie.MeasureT-loop
-μ-loop s n floats list item x best₀ least₀ k₀ best least k = length list - k
+μ-loop s n floats list form x best₀ least₀ k₀ best least k = length list - k
 
 -- the start, from the first read and from a turn's
 abbrev first : tie.After-shared-slice-known4 Inv-loop μ-loop → tie.Start Inv-loop μ-loop

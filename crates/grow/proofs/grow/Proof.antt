@@ -4,7 +4,7 @@ use borrow.Author.Needs.{needs}
 use Rattle.rules.specs.Tree.{Tree, push, distTo}
 use Rattle.rules.specs.Slices.{treeOf}
 use Rattle.rules.specs.Descent.{leafFor, alongPath}
-use Rattle.descent.specs.Items.{fits-row, distance-row, taking-row}
+use Rattle.descent.specs.Forms.{fits-row, item-row}
 use Rattle.grow.specs.Room.{growable-sure, row-place, row-rising, grown-is}
 use Rattle.grow.proofs.grow.Statement.{statement}
 use Rattle.grow.proofs.grow.Tie as tie
@@ -24,14 +24,14 @@ abbrev tree : tie.Start → Tree
 tree c = treeOf (c .args .s) (c .args .n) (c .args .floats .now) (c .args .links .now)
 
 leaf : (c : tie.After-descend) → c .descend .result ≡ leafFor (tree (start c)) (λ d. distTo (start c .args .s) d (start c .args .row .now))
-leaf c = c .descend .ensures .0 ∙ ap (leafFor (tree (start c))) (distance-row (start c .args .s) (start c .args .row .now))
+leaf c = c .descend .ensures .0 ∙ ap (λ i. leafFor (tree (start c)) (i .near)) (item-row (start c .args .s) (start c .args .row .now))
 
 path : (c : tie.After-feed-path)
     → treeOf (start (found c) .args .s) (start (found c) .args .n) (c .feed-path .last .1 .1 .0) (start (found c) .args .links .now)
     ≡ alongPath (push (start (found c) .args .s) (start (found c) .args .row .now)) (found c .descend .result) (tree (start (found c)))
 path c =
     let a = start (found c) .args in
-    c .feed-path .ensures ∙ ap (λ f. alongPath f (found c .descend .result) (tree (start (found c)))) (taking-row (a .s) (a .row .now))
+    c .feed-path .ensures ∙ ap (λ i. alongPath (i .taken) (found c .descend .result) (tree (start (found c)))) (item-row (a .s) (a .row .now))
 
 descend-requires : tie.Need-descend-requires
 descend-requires c κs =

@@ -16,8 +16,8 @@ use Rattle.rules.specs.Descent.{searched}
 use Rattle.rules.specs.Insert.{begun}
 use Rattle.rules.specs.declared.Nearest.the-variants.{Entry}
 use Rattle.arena.specs.Trees.{AnyFloats, Floats, Links, ChildrenIn}
-use Rattle.descent.specs.declared.item.Item.the-variants.{Row}
-use Rattle.descent.specs.Items.{Fits, fits-row, alone, alone-row}
+use Rattle.descent.specs.declared.form.Form.the-variants.{Row}
+use Rattle.descent.specs.Forms.{FormFits, fits-row, itemOf, item-row}
 use Rattle.descent.specs.Searched.{entryDistance, entry-inside}
 use Rattle.grow.specs.Places.{place-spare, alone-shaped, floats-begun, links-begun, placed-nothing, placed-absorbed, placed-begun}
 use Rattle.grow.proofs.place.Statement.{statement}
@@ -53,12 +53,12 @@ there : (c : tie.After-nearest-in-leaf) {e : ℕ} → c .nearest-in-leaf .result
 there c q = entry-inside (start c .args .n .entries) _ _ q (c .nearest-in-leaf .ensures .1)
 
 -- the summary of the row alone, from either branch
-row-fits : (c : tie.Start) → Fits (c .args .s) Row (c .args .row .now)
+row-fits : (c : tie.Start) → FormFits (c .args .s) Row (c .args .row .now)
 row-fits c = fits-row (c .args .s) (c .args .row .now) (c .pre .0 .2)
 
-module _ (c : tie.Start) {e : Summary} (q : e ≡ alone (c .args .s) Row (c .args .row .now)) where
+module _ (c : tie.Start) {e : Summary} (q : e ≡ itemOf (c .args .s) Row (c .args .row .now) .alone) where
   row-alone : e ≡ push (c .args .s) (c .args .row .now) blank
-  row-alone = q ∙ alone-row (c .args .s) (c .args .row .now)
+  row-alone = q ∙ ap (λ i. i .alone) (item-row (c .args .s) (c .args .row .now))
 
   row-shaped : Shaped (c .args .s .feature) (c .args .s .dim) e
   row-shaped = subst (Shaped (c .args .s .feature) (c .args .s .dim)) (sym row-alone) (alone-shaped (c .args .s) (c .args .row .now))

@@ -11,7 +11,7 @@ use Rattle.rules.specs.Descent.{leafFor, alongPath}
 use Rattle.rules.specs.Insert.{begun}
 use Rattle.rules.specs.Held.{in-shaped}
 use Rattle.arena.specs.Trees.{Floats, Links}
-use Rattle.descent.specs.Items.{fits-slot, distance-slot, taking-slot}
+use Rattle.descent.specs.Forms.{fits-slot, item-slot}
 use Rattle.grow.specs.Places.{Place, place-spare, floats-begun, links-begun}
 use Rattle.grow.specs.Room.{placeable-sure, entry-place, entry-rising, replaced-is}
 use Rattle.grow.proofs.replace.Statement.{statement}
@@ -35,14 +35,14 @@ abbrev summary : tie.Start → Summary
 summary c = summaryIn (c .args .s) (c .args .x .now)
 
 leaf : (c : tie.After-descend) → c .descend .result ≡ leafFor (tree (start c)) (λ d. distBetween (start c .args .s) d (summary (start c)))
-leaf c = c .descend .ensures .0 ∙ ap (leafFor (tree (start c))) (distance-slot (start c .args .s) (start c .args .x .now))
+leaf c = c .descend .ensures .0 ∙ ap (λ i. leafFor (tree (start c)) (i .near)) (item-slot (start c .args .s) (start c .args .x .now))
 
 path : (c : tie.After-feed-path)
     → treeOf (start (found c) .args .s) (start (found c) .args .n) (c .feed-path .last .1 .1 .0) (start (found c) .args .links .now)
     ≡ alongPath (λ d. merge (start (found c) .args .s) d (summary (start (found c)))) (found c .descend .result) (tree (start (found c)))
 path c =
     let a = start (found c) .args in
-    c .feed-path .ensures ∙ ap (λ f. alongPath f (found c .descend .result) (tree (start (found c)))) (taking-slot (a .s) (a .x .now))
+    c .feed-path .ensures ∙ ap (λ i. alongPath (i .taken) (found c .descend .result) (tree (start (found c)))) (item-slot (a .s) (a .x .now))
 
 place : (c : tie.After-feed-path)
     → Place (start (found c) .args .s) (start (found c) .args .n) (found c .descend .result)

@@ -5,7 +5,7 @@ use lib.ListN.{length}
 use Rattle.rules.specs.Tree.{Tree}
 use Rattle.rules.specs.Slices.{treeOf}
 use Rattle.insert.specs.Resting.{rest-grows, rest-rebuilds, with-rebuild, without-rebuild}
-use Rattle.rules.specs.Insert.{grown}
+use Rattle.rules.specs.Insert.{grown, rowItem}
 use Rattle.rules.specs.Rebuild.{rebuilt}
 use Rattle.arena.specs.Trees.{count-entries}
 use Rattle.insert.proofs.insert.Statement.{statement}
@@ -23,7 +23,7 @@ abbrev growing : tie.After-slice-known6 → tie.After-grow
 growing c = (c .before .before .before .before)
 
 -- the tree with the row has as many entries as the counters say
-entries : (c : tie.After-grow) → length (grown (start c .args .s) (start c .args .row .now) (tree (start c)) .entries) ≡ c .grow .result .entries
+entries : (c : tie.After-grow) → length (grown (start c .args .s) (rowItem (start c .args .s) (start c .args .row .now)) (tree (start c)) .entries) ≡ c .grow .result .entries
 entries c = ap (λ t. length (t .entries)) (sym (c .grow .ensures .1)) ∙ count-entries (start c .args .s) (c .grow .result) _ _
 
 grow-requires : tie.Need-grow-requires

@@ -9,9 +9,9 @@ use Rattle.rules.specs.Slices.{treeOf}
 use Rattle.insert.specs.Batch.{Batch, batch-start, batch-one, batch-next, batch-end}
 use Rattle.insert.specs.Resting.{rest-one}
 use Rattle.rows.specs.Rows.{rowOf, row-in, row-wide}
-use Rattle.rules.specs.Rebuild.{inserted}
 use Rattle.arena.specs.Trees.{Floats, Links}
 use Rattle.insert.proofs.insert_all.Statement.{statement}
+use Rattle.rules.specs.Rows.{inserted}
 use Rattle.insert.proofs.insert_all.Tie as tie
 
 abbrev Inv-loop : tie.InvT-loop

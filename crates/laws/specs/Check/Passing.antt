@@ -19,8 +19,8 @@ use Rattle.head.specs.declared.Settings.{Settings}
 use Rattle.head.specs.Sizes.{nodeCap}
 use Rattle.rules.specs.declared.Verdict.the-variants.{Passes}
 use Rattle.rules.specs.Lists.{upFrom, every, occurs, joined}
-use Rattle.rules.specs.Tree.{Node, Tree, nodeAt, entryAt, blankNode, cap}
-use Rattle.rules.specs.Check.{onceEach, orphan, names, sized, rooted, listFits, levels, ownList, leafLists, linked, loneRoot, filled, rowsIn, totalOf}
+use Rattle.rules.specs.Tree.{Node, Tree, nodeAt, entryAt, blankNode, cap, rowsIn}
+use Rattle.rules.specs.Check.{onceEach, orphan, names, sized, rooted, listFits, levels, ownList, leafLists, linked, loneRoot, filled, totalOf}
 use Rattle.rules.specs.Check.{weighs, weighed, checked, known, mergedBelow}
 use Rattle.rules.specs.Reinsert.{collected}
 use Rattle.counting.specs.Count.{is, below, below-in}

@@ -19,9 +19,9 @@ use Rattle.head.specs.declared.Settings.{Settings}
 use Rattle.head.specs.Sizes.{nodeCap}
 use Rattle.rules.specs.declared.Verdict.the-variants.{Passes}
 use Rattle.rules.specs.Lists.{upFrom, every}
-use Rattle.rules.specs.Tree.{Tree, nodeAt, entryAt}
+use Rattle.rules.specs.Tree.{Tree, nodeAt, entryAt, rowsIn}
 use Rattle.rules.specs.Reinsert.{collected}
-use Rattle.rules.specs.Check.{sized, loneRoot, rowsIn, totalOf, weighs, weighed, checked, mergedBelow}
+use Rattle.rules.specs.Check.{sized, loneRoot, totalOf, weighs, weighed, checked, mergedBelow}
 use Rattle.laws.specs.Invariant.Weights.{exact-count, exact-is, IsExact}
 use Rattle.counting.specs.Sums.{over-same, sumTo}
 use Rattle.laws.specs.Invariant.Links.{Links, nil, leaf?}

@@ -11,9 +11,8 @@ use Rattle.feature.specs.declared.Summary.{Summary}
 use Rattle.feature.specs.Summaries.{blank}
 use Rattle.head.specs.declared.Settings.{Settings}
 use Rattle.rules.specs.Lists.{snoc}
-use Rattle.rules.specs.Tree.{Tree, nodeAt, entryAt, blankNode, withNodes, withEntries, adding, listing}
+use Rattle.rules.specs.Tree.{Tree, nodeAt, entryAt, blankNode, withNodes, withEntries, adding, listing, rowsIn}
 use Rattle.rules.specs.Insert.{begun}
-use Rattle.rules.specs.Check.{rowsIn}
 use Rattle.laws.specs.Invariant.Weights.{IsExact, Exactly, exact-count, exact-is}
 use Rattle.counting.specs.Count.{is, is-other, same?}
 use Rattle.counting.specs.Sums.{over, over-same, over-append}

@@ -11,9 +11,8 @@ use Rattle.binary64.specs.Whole.{most}
 use Rattle.feature.specs.declared.Summary.{Summary}
 use Rattle.head.specs.declared.Settings.{Settings}
 use Rattle.rules.specs.Lists.{changeAt, occurs}
-use Rattle.rules.specs.Tree.{Node, Tree, nodeAt, entryAt, blankNode, withNodes, summed}
+use Rattle.rules.specs.Tree.{Node, Tree, nodeAt, entryAt, blankNode, withNodes, summed, rowsIn}
 use Rattle.rules.specs.Descent.{climbed, alongPath}
-use Rattle.rules.specs.Check.{rowsIn}
 use Rattle.laws.specs.Invariant.Weights.{IsExact, Exactly, exact-count, exact-is}
 use Rattle.counting.specs.Count.{same?}
 use Rattle.counting.specs.Sums.{over, over-same, over-once}

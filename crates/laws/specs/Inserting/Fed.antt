@@ -10,8 +10,7 @@ use Rattle.feature.specs.declared.Summary.{Summary}
 use Rattle.feature.specs.Summaries.{blank}
 use Rattle.head.specs.declared.Settings.{Settings}
 use Rattle.rules.specs.Lists.{changeAt, occurs}
-use Rattle.rules.specs.Tree.{Tree, nodeAt, entryAt, withEntries}
-use Rattle.rules.specs.Check.{rowsIn}
+use Rattle.rules.specs.Tree.{Tree, nodeAt, entryAt, withEntries, rowsIn}
 use Rattle.laws.specs.Invariant.Weights.{IsExact, Exactly, exact-count, exact-is}
 use Rattle.counting.specs.Count.{same?}
 use Rattle.counting.specs.Sums.{over-in, over-same, over-once}

@@ -1,4 +1,4 @@
--- The empty tree: its first row or entry makes a tree of one leaf. The invariant of any tree, empty or not.
+-- The empty tree: what comes in first makes a tree of one leaf. The invariant of any tree, empty or not.
 use Prim.Native.Nat.{ℕ, suc, _+_, _≤_, _<_}
 use mathlib.Core.Path.{_≡_, refl, sym, ap, _∙_, subst}
 use mathlib.Core.Logic.{_⊎_, inl, inr}
@@ -15,20 +15,18 @@ use Rattle.feature.specs.declared.Summary.{Summary}
 use Rattle.feature.specs.Steps.{pushed}
 use Rattle.feature.specs.Summaries.{blank}
 use Rattle.head.specs.declared.Settings.{Settings}
-use Rattle.rules.specs.Lists.{changeAt, snoc, occurs}
-use Rattle.rules.specs.Tree.{push, merge, Tree, nodeAt, entryAt, blankNode, fresh, withNodes, withEntries, adding, listing, summed, cap, distTo, distBetween}
-use Rattle.rules.specs.Descent.{searched, descended, leafFor, climbed, alongPath, searching}
-use Rattle.rules.specs.Insert.{begun, absorbedOrBegun, placed, grownAt, grown}
-use Rattle.rules.specs.Reinsert.{replaced}
-use Rattle.rules.specs.Check.{rowsIn}
+use Rattle.rules.specs.Lists.{occurs}
+use Rattle.rules.specs.Tree.{push, Tree, nodeAt, entryAt, blankNode, fresh, cap, rowsIn}
+use Rattle.rules.specs.Descent.{descended, leafFor}
 use Rattle.counting.specs.Count.{is, is-same, is-other, below, below-out, below-suc}
 use Rattle.counting.specs.Sums.{over, occurs-cons, sumTo}
 use Rattle.laws.specs.Invariant.Links.{Links, inner, held, nil, rankCount}
-use Rattle.laws.specs.Invariant.Weights.{Exactly, exact-count, exact-is, push-weigh, merge-weight, blank-exact}
+use Rattle.laws.specs.Invariant.Weights.{Exactly, exact-count, exact-is, push-weigh, blank-exact}
 use Rattle.laws.specs.Invariant.Weigh.{own, pick}
-use Rattle.laws.specs.Invariant.Sound.{entryWeight, nodeWeight, Caps}
-use Rattle.laws.specs.Inserting.Grown.{Placed, Whole, settled-whole, entry-in, row-in}
+use Rattle.laws.specs.Invariant.Sound.{entryWeight, nodeWeight}
+use Rattle.laws.specs.Inserting.Grown.{Placed, Whole}
 use Rattle.head.specs.declared.Running.{Running}
+use Rattle.laws.specs.Inserting.Descent.{leaf-found}
 
 -- one leaf of list ks and summary z, and entries es
 abbrev pub lone : Summary → List ℕ → List Summary → Running → Tree
@@ -137,68 +135,15 @@ pub fresh-holds : (s : Settings) (h : Float) → Holding s (fresh h) 0
 unfolding fresh blankNode
 fresh-holds s h = inl (record { summary = blank; zero = inl (blank-exact .0); is = refl }, refl)
 
--- ---- a row, and an entry, placed: the invariant, looked at in the leaf
+-- the leaf that a descent finds is one
+abbrev AtLeaf : Settings → (Summary → Float) → Tree → Type 0
+AtLeaf s f t = (leafFor t f < length (t .nodes)) × (nodeAt t (leafFor t f) .leaf ≡ true)
 
-abbrev pub rowPlaced : Settings → List Float → Tree → Tree
-rowPlaced s x t = placed s x (leafFor t (λ c. distTo s c x)) (alongPath (push s x) (leafFor t (λ c. distTo s c x)) t)
+empty-leaf : (s : Settings) (f : Summary → Float) (z : Summary) (r : Running) → AtLeaf s f (emptyTree z r)
+unfolding leafFor descended nodeAt
+empty-leaf s f z r = (omega arith, refl)
 
-abbrev pub PlacedRow : Settings → List Float → ℕ → Tree → Type 0
-PlacedRow s x total t = (R : ℕ → ℕ) × Placed s (rowPlaced s x t) R (leafFor t (λ c. distTo s c x)) total
-
-first-row : (s : Settings) (x : List Float) (z : Summary) (r : Running) → Exactly (push s x z) 1 → PlacedRow s x 1 (emptyTree z r)
-unfolding placed absorbedOrBegun searched searching leafFor descended alongPath climbed changeAt summed begun adding listing snoc withNodes withEntries nodeAt
-first-row s x z r e = (nil, one-placed s (push s x z) (push s x blank) r 1 e (push-weigh s x blank 0 blank-exact (omega arith)) (omega arith))
-
--- a row in its leaf, before any split
-pub row-placed : (s : Settings) (x : List Float) (t : Tree) (total : ℕ) → Caps s → Holding s t total → total < most → PlacedRow s x (suc total) t
-row-placed s x t total c (inl b) h =
-    let q = b .0 in
-    subst (λ u. PlacedRow s x (suc total) u) (sym (q .is)) (subst (λ k. PlacedRow s x (suc k) (emptyTree (q .summary) (t .running))) (sym (b .1))
-    (first-row s x (q .summary) (t .running) (push-zero s x (q .summary) (q .zero))))
-row-placed s x t total c (inr w) h =
-    let e : total + 1 ≡ suc total = omega arith in
-    (w .0, subst (λ k. Placed s (rowPlaced s x t) (w .0) (leafFor t (λ c. distTo s c x)) k) e (row-in x c (w .1) (w .2) (omega arith)))
-
--- a row in, splits done: the invariant, and one row more
-pub grown-holds : (s : Settings) (x : List Float) (t : Tree) (total : ℕ) → Caps s → Holding s t total → total < most → Whole s (grown s x t) (suc total)
-unfolding grown grownAt
-grown-holds s x t total c k h =
-    let p = row-placed s x t total c k h in
-    settled-whole s (rowPlaced s x t) (p .0) (leafFor t (λ c. distTo s c x)) (suc total) c (p .1)
-
--- an empty tree of weight exactly 0, as a clearing leaves it, or a settled one
-abbrev pub Ready : Settings → Tree → ℕ → Type 0
-Ready s t total = ((z : Summary) × Exactly z 0 × (t ≡ emptyTree z (t .running)) × (total ≡ 0)) ⊎ Whole s t total
-
-pub ready-holds : (s : Settings) (t : Tree) (total : ℕ) → Ready s t total → Holding s t total
-ready-holds s t total (inl q) = inl (record { summary = q .0; zero = inl (q .1 .0); is = q .2 }, q .3)
-ready-holds s t total (inr w) = inr w
-
-abbrev pub entryPlaced : Settings → Summary → Tree → Tree
-entryPlaced s e t = begun (leafFor t (λ c. distBetween s c e)) e (alongPath (λ c. merge s c e) (leafFor t (λ c. distBetween s c e)) t)
-
-abbrev pub PlacedEntry : Settings → Summary → ℕ → Tree → Type 0
-PlacedEntry s e total t = (R : ℕ → ℕ) × Placed s (entryPlaced s e t) R (leafFor t (λ c. distBetween s c e)) total
-
-first-entry : (s : Settings) (e z : Summary) (r : Running) (d : ℕ) → Exactly (merge s z e) d → Exactly e d → 1 ≤ d → PlacedEntry s e d (emptyTree z r)
-unfolding leafFor descended alongPath climbed changeAt summed begun adding listing snoc withNodes withEntries nodeAt
-first-entry s e z r d hz he pos = (nil, one-placed s (merge s z e) e r d hz he pos)
-
--- an entry in its leaf, before any split
-pub entry-placed : (s : Settings) (e : Summary) (t : Tree) (d total : ℕ) → Ready s t total → Exactly e d → 1 ≤ d → total + d ≤ most
-    → PlacedEntry s e (total + d) t
-entry-placed s e t d total (inl q) x pos b =
-    let z = q .0 in
-    let k : d ≡ total + d = let w = q .3 in omega arith in
-    subst (λ u. PlacedEntry s e (total + d) u) (sym (q .2)) (subst (λ n. PlacedEntry s e n (emptyTree z (t .running))) k
-    (first-entry s e z (t .running) d (subst (λ y. Exactly (merge s z e) y) (let w : 0 + d ≡ d = omega arith in w)
-    (merge-weight s z e 0 d (q .1) x (omega arith))) x pos))
-entry-placed s e t d total (inr w) x pos b = (w .0, entry-in s e t (w .0) d total (w .1) (w .2) x pos b)
-
--- an entry placed, splits done: the invariant, and its rows more
-pub place-ready : (s : Settings) (e : Summary) (t : Tree) (d total : ℕ) → Caps s → Ready s t total → Exactly e d → 1 ≤ d → total + d ≤ most
-    → Whole s (replaced s e t) (total + d)
-unfolding replaced
-place-ready s e t d total c k x pos b =
-    let p = entry-placed s e t d total k x pos b in
-    settled-whole s (entryPlaced s e t) (p .0) (leafFor t (λ c. distBetween s c e)) (total + d) c (p .1)
+pub leaf-of : (s : Settings) (t : Tree) (total : ℕ) (f : Summary → Float) → Holding s t total
+    → (leafFor t f < length (t .nodes)) × (nodeAt t (leafFor t f) .leaf ≡ true)
+leaf-of s t total f (inl b) = let q = b .0 in subst (AtLeaf s f) (sym (q .is)) (empty-leaf s f (q .summary) (t .running))
+leaf-of s t total f (inr w) = leaf-found s t f (w .0) nil nil nil (w .1 .links)

@@ -7,8 +7,7 @@ use lib.ListN.{length}
 use Rattle.binary64.specs.Whole.{most}
 use Rattle.head.specs.declared.Settings.{Settings}
 use Rattle.head.specs.Limits.{Sized}
-use Rattle.rules.specs.Tree.{Tree, nodeAt, entryAt, child, cap}
-use Rattle.rules.specs.Check.{rowsIn}
+use Rattle.rules.specs.Tree.{Tree, nodeAt, entryAt, child, cap, rowsIn}
 use Rattle.laws.specs.Invariant.Weights.{IsExact, weightOf}
 use Rattle.counting.specs.Count.{is}
 use Rattle.laws.specs.Invariant.Links.{Links, nil}

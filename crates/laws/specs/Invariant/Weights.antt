@@ -11,9 +11,8 @@ use Rattle.feature.specs.Summaries.{blank}
 use Rattle.feature.specs.Weights.{blank-weight, pushed-weight, merged-weight}
 use Rattle.head.specs.declared.Settings.{Settings}
 use Rattle.rules.specs.Lists.{occurs}
-use Rattle.rules.specs.Tree.{Tree, push, merge, child}
+use Rattle.rules.specs.Tree.{Tree, push, merge, child, rowsIn}
 use Rattle.rules.specs.Split.{gathered}
-use Rattle.rules.specs.Check.{rowsIn}
 use Rattle.counting.specs.Sums.{over, occurs-here, occurs-later}
 
 -- a summary that weighs exactly n

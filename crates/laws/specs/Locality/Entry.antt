@@ -3,7 +3,6 @@ use Prim.Native.Nat.{ℕ, _<_}
 use mathlib.Core.Path.{_≡_, refl, sym, ap, _∙_, subst}
 use mathlib.Core.Logic.{inl, inr}
 use mathlib.Core.Bool.{Bool, true, false, cond}
-use mathlib.Core.List.{List}
 use mathlib.Core.Option.{some}
 use native.Mathlib.Omega.{arith}
 use lib.ListN.{length, getD}
@@ -14,94 +13,87 @@ use Rattle.head.specs.declared.Settings.{Settings}
 use Rattle.rules.specs.declared.Nearest.{Nearest}
 use Rattle.rules.specs.declared.Nearest.the-variants.{Entry, Nothing}
 use Rattle.rules.specs.Lists.{changeAt, snoc, occurs}
-use Rattle.rules.specs.Tree.{push, distTo, Tree, nodeAt, entryAt, summed, withNodes, withEntries}
+use Rattle.rules.specs.Tree.{Tree, nodeAt, entryAt, summed, withNodes, withEntries}
 use Rattle.rules.specs.Split.{splitUp, settled}
-use Rattle.rules.specs.Descent.{searching, searched, descended, leafFor, alongPath}
-use Rattle.rules.specs.Insert.{begun, absorbed, absorbedOrBegun, placed, grownAt, grown, absorbs}
+use Rattle.rules.specs.Descent.{searching, searched, alongPath}
+use Rattle.rules.specs.Insert.{begun, absorbed, absorbedOrBegun, placed, grownAt, absorbs, Item}
 use Rattle.laws.specs.Demand.{winner, OneEntry, took, began}
 use Rattle.laws.specs.Running.{splitUp-entries}
 use Rattle.laws.specs.Invariant.Links.{nil}
-use Rattle.laws.specs.Inserting.Descent.{leaf-found}
 use Rattle.laws.specs.Inserting.Grown.{Hit, search-among, climb-keeps}
 use Rattle.laws.specs.Inserting.Listed.{held-in}
 use Rattle.laws.specs.Inserting.First.{emptyTree, Holding}
 use Rattle.head.specs.declared.Running.{Running}
 
 -- the winner is an entry
-pub winner-in : (s : Settings) (x : List Float) (t : Tree) (total : ℕ) → Holding s t total → Hit (λ e. e < length (t .entries)) (winner s x t)
-winner-in s x t total (inl b) =
-    subst (λ t. Hit (λ e. e < length (t .entries)) (winner s x t)) (sym (b .0 .is)) (none-there (b .0 .summary) (t .running))
+pub winner-in : (s : Settings) (i : Item) (l : ℕ) (t : Tree) (total : ℕ) → Holding s t total → l < length (t .nodes) → nodeAt t l .leaf ≡ true
+    → Hit (λ e. e < length (t .entries)) (winner i l t)
+winner-in s i l t total (inl b) here leaf =
+    let n : length (t .nodes) ≡ 1 = ap (λ u. length (u .nodes)) (b .0 .is) in
+    let z : 0 ≡ l = omega arith in
+    subst (λ j. Hit (λ e. e < length (t .entries)) (winner i j t)) z (subst (λ t. Hit (λ e. e < length (t .entries)) (winner i 0 t)) (sym (b .0 .is))
+    (none-there (b .0 .summary) (t .running)))
   where
-    none-there : (z : Summary) (r : Running) → Hit (λ e. e < 0) (winner s x (emptyTree z r))
-    none-there z r = unfold winner searched searching leafFor descended nodeAt in tt
-winner-in s x t total (inr w) = unfold winner in go (searched to (nodeAt t l .list)) (search-among to (nodeAt t l .list))
+    none-there : (z : Summary) (r : Running) → Hit (λ e. e < 0) (winner i 0 (emptyTree z r))
+    none-there z r = unfold winner searched searching nodeAt in tt
+winner-in s i l t total (inr w) here leaf = unfold winner in go (searched to (nodeAt t l .list)) (search-among to (nodeAt t l .list))
   where
-    l : ℕ
-    l = leafFor t (λ c. distTo s c x)
-
     to : ℕ → Float
-    to e = distTo s (entryAt t e) x
+    to e = i .near (entryAt t e)
 
     go : (r : Nearest) → Hit (λ e. 0 < occurs e (nodeAt t l .list)) r → Hit (λ e. e < length (t .entries)) r
     go Nothing a = tt
-    go (Entry e) a =
-        let q = leaf-found s t (λ c. distTo s c x) (w .0) nil nil nil (w .1 .links) in
-        held-in s (nodeAt t) (length (t .nodes)) (t .root) (length (t .entries)) (w .0) nil nil nil (w .1 .links) l e (q .0) (q .1) a .0
+    go (Entry e) a = held-in s (nodeAt t) (length (t .nodes)) (t .root) (length (t .entries)) (w .0) nil nil nil (w .1 .links) l e here leaf a .0
 
 path-list : (F : Summary → Summary) (l : ℕ) (t : Tree) (k : ℕ) → nodeAt (alongPath F l t) k .list ≡ nodeAt t k .list
 unfolding alongPath withNodes nodeAt summed
 path-list F l t k = climb-keeps F (λ m. m .list) (λ m. refl) (length (t .nodes)) (some l) (t .nodes) k
 
--- the push along the path, which is before the search, leaves the winner as it is
-pub winner-found : (s : Settings) (x : List Float) (t : Tree)
-    → let l = leafFor t (λ c. distTo s c x) in
-    let u = alongPath (push s x) l t in
-    winner s x t ≡ searched (λ e. distTo s (entryAt u e) x) (nodeAt u l .list)
+-- the way along the path, which is before the search, leaves the winner as it is
+pub winner-found : (i : Item) (l : ℕ) (t : Tree)
+    → let u = alongPath (i .taken) l t in
+    winner i l t ≡ searched (λ e. i .near (entryAt u e)) (nodeAt u l .list)
 unfolding winner alongPath withNodes entryAt
-winner-found s x t =
-    let l = leafFor t (λ c. distTo s c x) in
-    ap (searched (λ e. distTo s (getD (t .entries) e blank) x)) (sym (path-list (push s x) l t l))
+winner-found i l t = ap (searched (λ e. i .near (getD (t .entries) e blank))) (sym (path-list (i .taken) l t l))
 
--- a row in alters one entry, within the threshold, or adds one
-pub grown-one : (s : Settings) (x : List Float) (t : Tree) (total : ℕ) → Holding s t total → OneEntry s x t (grown s x t)
-unfolding grown grownAt settled placed
-grown-one s x t total k = go (searched (λ e. distTo s (entryAt u e) x) (nodeAt u l .list)) (winner-found s x t)
+-- an item in alters one entry, within the threshold, or adds one
+pub grown-one : (s : Settings) (i : Item) (l : ℕ) (t : Tree) (total : ℕ) → Holding s t total → l < length (t .nodes) → nodeAt t l .leaf ≡ true
+    → OneEntry i l t (grownAt s i l t)
+unfolding grownAt settled placed
+grown-one s i l t total k here leaf = go (searched (λ e. i .near (entryAt u e)) (nodeAt u l .list)) (winner-found i l t)
   where
-    l : ℕ
-    l = leafFor t (λ c. distTo s c x)
-
     u : Tree
-    u = alongPath (push s x) l t
+    u = alongPath (i .taken) l t
 
-    same-test : (e : ℕ) → absorbs s x e u ≡ absorbs s x e t
+    same-test : (e : ℕ) → absorbs i e u ≡ absorbs i e t
     same-test e = unfold alongPath withNodes entryAt absorbs in refl
 
-    no-winner : winner s x t ≡ Nothing → (e : ℕ) → winner s x t ≡ Entry e → absorbs s x e t ≡ false
+    no-winner : winner i l t ≡ Nothing → (e : ℕ) → winner i l t ≡ Entry e → absorbs i e t ≡ false
     no-winner f e g = let z : _≡_ {A = ℕ} 0 1 = cc in absurd (omega arith)
 
-    go : (r : Nearest) → winner s x t ≡ r → OneEntry s x t (splitUp s (length ((absorbedOrBegun s x l r u) .nodes)) l (absorbedOrBegun s x l r u))
+    go : (r : Nearest) → winner i l t ≡ r → OneEntry i l t (splitUp s (length ((absorbedOrBegun i l r u) .nodes)) l (absorbedOrBegun i l r u))
     go Nothing f =
         began (no-winner f)
-        (splitUp-entries s (length ((absorbedOrBegun s x l Nothing u) .nodes)) l (absorbedOrBegun s x l Nothing u)
+        (splitUp-entries s (length ((absorbedOrBegun i l Nothing u) .nodes)) l (absorbedOrBegun i l Nothing u)
         ∙ (unfold absorbedOrBegun begun alongPath withEntries withNodes in refl))
-    go (Entry e) f = by (absorbs s x e u) refl
+    go (Entry e) f = by (absorbs i e u) refl
       where
         v : Tree
-        v = absorbedOrBegun s x l (Entry e) u
+        v = absorbedOrBegun i l (Entry e) u
 
         ends : splitUp s (length (v .nodes)) l v .entries ≡ v .entries
         ends = splitUp-entries s (length (v .nodes)) l v
 
-        kept : (b : Bool) → absorbs s x e u ≡ b → v .entries ≡ cond b (changeAt (push s x) e (t .entries)) (snoc (t .entries) (push s x blank))
+        kept : (b : Bool) → absorbs i e u ≡ b → v .entries ≡ cond b (changeAt (i .taken) e (t .entries)) (snoc (t .entries) (i .alone))
         kept b q =
             unfold absorbedOrBegun absorbed begun alongPath withEntries withNodes in
-            (ap (λ b. (cond b (absorbed s x e u) (begun l (push s x blank) u)) .entries) q ∙ sides b)
+            (ap (λ b. (cond b (absorbed i e u) (begun l (i .alone) u)) .entries) q ∙ sides b)
           where
-            sides : (b : Bool) → (cond b (absorbed s x e u) (begun l (push s x blank) u)) .entries
-                ≡ cond b (changeAt (push s x) e (t .entries)) (snoc (t .entries) (push s x blank))
+            sides : (b : Bool) → (cond b (absorbed i e u) (begun l (i .alone) u)) .entries
+                ≡ cond b (changeAt (i .taken) e (t .entries)) (snoc (t .entries) (i .alone))
             sides true = unfold absorbed alongPath withEntries withNodes in refl
             sides false = unfold begun alongPath withEntries withNodes in refl
 
-        by : (b : Bool) → absorbs s x e u ≡ b → OneEntry s x t (splitUp s (length (v .nodes)) l v)
-        by true q = took e (subst (Hit (λ e. e < length (t .entries))) f (winner-in s x t total k)) f (sym (same-test e) ∙ q) (ends ∙ kept true q)
-        by false q = began (λ d g. let z : e ≡ d = cc in subst (λ y. absorbs s x y t ≡ false) z (sym (same-test e) ∙ q)) (ends ∙ kept false q)
+        by : (b : Bool) → absorbs i e u ≡ b → OneEntry i l t (splitUp s (length (v .nodes)) l v)
+        by true q = took e (subst (Hit (λ e. e < length (t .entries))) f (winner-in s i l t total k here leaf)) f (sym (same-test e) ∙ q) (ends ∙ kept true q)
+        by false q = began (λ d g. let z : e ≡ d = cc in subst (λ y. absorbs i y t ≡ false) z (sym (same-test e) ∙ q)) (ends ∙ kept false q)

@@ -8,24 +8,22 @@ use mathlib.Core.Option.{Option, none, some, Option·some-injective, Option·non
 use native.Mathlib.Omega.{arith}
 use lib.Dec.{T, nleb→lt}
 use lib.ListN.{length, getD}
-use lib.Ieee.{Float}
 use Rattle.binary64.specs.Whole.{most}
 use Rattle.feature.specs.declared.Summary.{Summary}
-use Rattle.feature.specs.Summaries.{blank}
 use Rattle.head.specs.declared.Settings.{Settings}
 use Rattle.rules.specs.declared.Nearest.{Nearest}
 use Rattle.rules.specs.declared.Nearest.the-variants.{Entry, Nothing}
 use Rattle.rules.specs.Lists.{changeAt, occurs}
-use Rattle.rules.specs.Tree.{push, distTo, Node, Tree, nodeAt, entryAt, blankNode, cap, adding, listing, summed, withNodes, withEntries}
+use Rattle.rules.specs.Tree.{Node, Tree, nodeAt, entryAt, blankNode, cap, adding, listing, summed, withNodes, withEntries}
 use Rattle.rules.specs.Split.{split, crowned, fitting, splitNext, splitIf, splitUp, settled}
-use Rattle.rules.specs.Descent.{searched, leafFor, climbed, alongPath}
-use Rattle.rules.specs.Insert.{begun, absorbed, absorbedOrBegun, placed, grownAt, grown, absorbs}
+use Rattle.rules.specs.Descent.{searched, climbed, alongPath}
+use Rattle.rules.specs.Insert.{begun, absorbed, absorbedOrBegun, placed, grownAt, absorbs, Item}
 use Rattle.laws.specs.Demand.{Moved, Same}
 use Rattle.laws.specs.Splitting.Nodes.{split-length, split-sum-o}
 use Rattle.laws.specs.Splitting.Extended.{extended, extend-added, extend-sum, extend-length, crowned-sum, crowned-parts}
 use Rattle.counting.specs.Lists.{change-off, change-keeps, length-change, past-end}
 use Rattle.counting.specs.Count.{same?, lt?, lt-ne}
-use Rattle.laws.specs.Invariant.Links.{leaf?, put, nil}
+use Rattle.laws.specs.Invariant.Links.{leaf?, put}
 use Rattle.laws.specs.Splitting.Torn.{Parts}
 use Rattle.laws.specs.Splitting.Tied.{Added}
 use Rattle.laws.specs.Splitting.Crown.{Crowned}
@@ -33,8 +31,8 @@ use Rattle.laws.specs.Splitting.Groups.{stayList, moveList}
 use Rattle.laws.specs.Invariant.Sound.{Looking, Settled, Caps, cap-some}
 use Rattle.laws.specs.Splitting.Split.{parts-of, in-move}
 use Rattle.laws.specs.Splitting.Up.{next-looking, next-in}
-use Rattle.laws.specs.Inserting.Descent.{leaf-found}
-use Rattle.laws.specs.Inserting.Grown.{search-among, Counted, Placed, join, path-length, climb-keeps}
+use Rattle.laws.specs.Inserting.Grown.{search-among, Counted, Placed, path-length, climb-keeps}
+use Rattle.laws.specs.Inserting.Items.{Weighty, join}
 
 -- ---- nodes
 
@@ -226,60 +224,59 @@ climb-kept P F (suc k) m ns pm up q off = go (getD ns m blankNode .parent) refl 
     go (some p) e ih = ih p (inn p e) ∙ same
 
 -- joining alters the leaf's list at most
-join-kept : (s : Settings) (P : ℕ → Type 0) (n : ℕ) (x : List Float) (l : ℕ) (r : Nearest) (t : Tree) → P l → Spared P n t (absorbedOrBegun s x l r t)
+join-kept : (P : ℕ → Type 0) (n : ℕ) (i : Item) (l : ℕ) (r : Nearest) (t : Tree) → P l → Spared P n t (absorbedOrBegun i l r t)
 unfolding absorbedOrBegun begun absorbed withEntries withNodes nodeAt
-join-kept s P n x l Nothing t pl =
-    (λ q h off. as-before P n t (begun l (push s x blank) t) q (change-off (adding (length (t .entries))) l q blankNode (t .nodes)
+join-kept P n i l Nothing t pl =
+    (λ q h off. as-before P n t (begun l (i .alone) t) q (change-off (adding (length (t .entries))) l q blankNode (t .nodes)
     (λ e. off (subst P (sym e) pl))))
-join-kept s P n x l (Entry e) t pl = go (absorbs s x e t)
+join-kept P n i l (Entry e) t pl = go (absorbs i e t)
   where
-    go : (b : Bool) → Spared P n t (cond b (absorbed s x e t) (begun l (push s x blank) t))
-    go true = λ q h off. as-before P n t (absorbed s x e t) q refl
+    go : (b : Bool) → Spared P n t (cond b (absorbed i e t) (begun l (i .alone) t))
+    go true = λ q h off. as-before P n t (absorbed i e t) q refl
     go false =
-        λ q h off. as-before P n t (begun l (push s x blank) t) q (change-off (adding (length (t .entries))) l q blankNode (t .nodes)
+        λ q h off. as-before P n t (begun l (i .alone) t) q (change-off (adding (length (t .entries))) l q blankNode (t .nodes)
         (λ e. off (subst P (sym e) pl)))
 
-join-parent : (s : Settings) (x : List Float) (l : ℕ) (r : Nearest) (t : Tree) (k : ℕ) → nodeAt (absorbedOrBegun s x l r t) k .parent ≡ nodeAt t k .parent
+join-parent : (i : Item) (l : ℕ) (r : Nearest) (t : Tree) (k : ℕ) → nodeAt (absorbedOrBegun i l r t) k .parent ≡ nodeAt t k .parent
 unfolding absorbedOrBegun begun absorbed withEntries withNodes nodeAt adding listing
-join-parent s x l Nothing t k = change-keeps (λ m. m .parent) (adding (length (t .entries))) l k blankNode (t .nodes) (λ m. refl)
-join-parent s x l (Entry e) t k = go (absorbs s x e t)
+join-parent i l Nothing t k = change-keeps (λ m. m .parent) (adding (length (t .entries))) l k blankNode (t .nodes) (λ m. refl)
+join-parent i l (Entry e) t k = go (absorbs i e t)
   where
-    go : (b : Bool) → nodeAt (cond b (absorbed s x e t) (begun l (push s x blank) t)) k .parent ≡ nodeAt t k .parent
+    go : (b : Bool) → nodeAt (cond b (absorbed i e t) (begun l (i .alone) t)) k .parent ≡ nodeAt t k .parent
     go true = refl
     go false = change-keeps (λ m. m .parent) (adding (length (t .entries))) l k blankNode (t .nodes) (λ m. refl)
 
-join-length : (s : Settings) (x : List Float) (l : ℕ) (r : Nearest) (t : Tree) → length ((absorbedOrBegun s x l r t) .nodes) ≡ length (t .nodes)
+join-length : (i : Item) (l : ℕ) (r : Nearest) (t : Tree) → length ((absorbedOrBegun i l r t) .nodes) ≡ length (t .nodes)
 unfolding absorbedOrBegun begun absorbed withEntries withNodes
-join-length s x l Nothing t = length-change (adding (length (t .entries))) l (t .nodes)
-join-length s x l (Entry e) t = go (absorbs s x e t)
+join-length i l Nothing t = length-change (adding (length (t .entries))) l (t .nodes)
+join-length i l (Entry e) t = go (absorbs i e t)
   where
-    go : (b : Bool) → length ((cond b (absorbed s x e t) (begun l (push s x blank) t)) .nodes) ≡ length (t .nodes)
+    go : (b : Bool) → length ((cond b (absorbed i e t) (begun l (i .alone) t)) .nodes) ≡ length (t .nodes)
     go true = refl
     go false = length-change (adding (length (t .entries))) l (t .nodes)
 
--- P: any set that has the row's leaf, the parent of each of its nodes, and all numbers past the tree's nodes: the least is the row's way up and the new nodes
-pub grown-kept : (s : Settings) (x : List Float) (t : Tree) (R : ℕ → ℕ) (old : ℕ) → Caps s → Settled s t R old → Counted t old → old + 1 ≤ most
-    → (P : ℕ → Type 0) → ((k : ℕ) → length (t .nodes) ≤ k → P k) → P (leafFor t (λ c. distTo s c x)) → Upward P t → Spared P (length (t .nodes)) t (grown s x t)
-unfolding grown grownAt placed settled
-grown-kept s x t R old c g n b P new pl up =
-    let l = leafFor t (λ c. distTo s c x) in
-    let q = leaf-found s t (λ c. distTo s c x) R nil nil nil (g .links) in
-    let F : Summary → Summary = push s x in
+-- P: any set that has the leaf l, the parent of each of its nodes, and all numbers past the tree's nodes: the least is the way up from l and the new nodes
+pub grown-kept : (s : Settings) (i : Item) (l : ℕ) (t : Tree) (R : ℕ → ℕ) (old : ℕ) → Weighty i → Caps s → Settled s t R old → Counted t old → old + i .rows ≤ most
+    → l < length (t .nodes) → nodeAt t l .leaf ≡ true
+    → (P : ℕ → Type 0) → ((k : ℕ) → length (t .nodes) ≤ k → P k) → P l → Upward P t → Spared P (length (t .nodes)) t (grownAt s i l t)
+unfolding grownAt placed settled
+grown-kept s i l t R old ok c g n b here leaf P new pl up =
+    let F : Summary → Summary = i .taken in
     let u = alongPath F l t in
-    let r = searched (λ e. distTo s (entryAt u e) x) (nodeAt u l .list) in
-    let v = absorbedOrBegun s x l r u in
-    let p : Placed s v R l (old + 1) = join x c g n b l (q .0) (q .1) r (search-among (λ e. distTo s (entryAt u e) x) (nodeAt u l .list)) in
-    let lv : length (v .nodes) ≡ length (t .nodes) = join-length s x l r u ∙ path-length F l t in
-    let a : Spared P (length (t .nodes)) t u = λ q h off. as-before P (length (t .nodes)) t u q (path-same l F pl q off) in
-    let d : Spared P (length (t .nodes)) u v = join-kept s P (length (t .nodes)) x l r u pl in
-    let e : Upward P v = λ m p h pm z. up m p (subst (λ y. m < y) lv h) pm (sym (join-parent s x l r u m ∙ path-parent l F m) ∙ z) in
+    let r = searched (λ e. i .near (entryAt u e)) (nodeAt u l .list) in
+    let v = absorbedOrBegun i l r u in
+    let p : Placed s v R l (old + i .rows) = join i ok g n b l here leaf r (search-among (λ e. i .near (entryAt u e)) (nodeAt u l .list)) in
+    let lv : length (v .nodes) ≡ length (t .nodes) = join-length i l r u ∙ path-length F l t in
+    let a : Spared P (length (t .nodes)) t u = λ q h off. as-before P (length (t .nodes)) t u q (path-same F q off) in
+    let d : Spared P (length (t .nodes)) u v = join-kept P (length (t .nodes)) i l r u pl in
+    let e : Upward P v = λ m p h pm z. up m p (subst (λ y. m < y) lv h) pm (sym (join-parent i l r u m ∙ path-parent F m) ∙ z) in
     let f : Spared P (length (t .nodes)) v (splitUp s (length (v .nodes)) l v) =
-    splits-kept s P (length (t .nodes)) new (length (v .nodes)) l v R (old + 1) c (p .looking) (p .here) (omega arith) pl e in
+    splits-kept s P (length (t .nodes)) new (length (v .nodes)) l v R (old + i .rows) c (p .looking) (p .here) (omega arith) pl e in
     kept-then P (length (t .nodes)) t u (splitUp s (length (v .nodes)) l v) a (kept-then P (length (t .nodes)) u v (splitUp s (length (v .nodes)) l v) d f)
   where
-    path-same : (l : ℕ) (F : Summary → Summary) → P l → (q : ℕ) → (P q → ⊥) → nodeAt (alongPath F l t) q ≡ nodeAt t q
-    path-same l F pl q off =
+    path-same : (F : Summary → Summary) (q : ℕ) → (P q → ⊥) → nodeAt (alongPath F l t) q ≡ nodeAt t q
+    path-same F q off =
         unfold alongPath withNodes nodeAt in climb-kept P F (length (t .nodes)) l (t .nodes) pl (λ m p h pm e. up m p h pm (unfold nodeAt in e)) q off
 
-    path-parent : (l : ℕ) (F : Summary → Summary) (m : ℕ) → nodeAt (alongPath F l t) m .parent ≡ nodeAt t m .parent
-    path-parent l F m = unfold alongPath withNodes nodeAt summed in climb-keeps F (λ m. m .parent) (λ m. refl) (length (t .nodes)) (some l) (t .nodes) m
+    path-parent : (F : Summary → Summary) (m : ℕ) → nodeAt (alongPath F l t) m .parent ≡ nodeAt t m .parent
+    path-parent F m = unfold alongPath withNodes nodeAt summed in climb-keeps F (λ m. m .parent) (λ m. refl) (length (t .nodes)) (some l) (t .nodes) m

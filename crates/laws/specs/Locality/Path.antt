@@ -2,23 +2,20 @@
 use Prim.Native.Nat.{ℕ, zero, suc, _+_, _<_}
 use mathlib.Core.Path.{_≡_, refl, sym, ap, _∙_, subst}
 use mathlib.Core.Logic.{_⊎_, inl, inr, _≢_}
-use mathlib.Core.List.{List, []}
+use mathlib.Core.List.{[]}
 use mathlib.Core.Option.{Option, none, some, Option·some-injective, Option·none-ne-some}
 use native.Mathlib.Omega.{arith}
 use lib.ListN.{length}
-use lib.Ieee.{Float}
 use Rattle.head.specs.declared.Settings.{Settings}
 use Rattle.rules.specs.Lists.{occurs}
-use Rattle.rules.specs.Tree.{distTo, Tree, nodeAt}
-use Rattle.rules.specs.Descent.{leafFor}
-use Rattle.laws.specs.Demand.{wayUp, rowPath}
+use Rattle.rules.specs.Tree.{Tree, nodeAt}
+use Rattle.laws.specs.Demand.{wayUp, pathUp, OnPath}
 use Rattle.counting.specs.Count.{same?, is-other}
 use Rattle.laws.specs.Invariant.Links.{nil, Links, parent-lists}
-use Rattle.laws.specs.Inserting.Descent.{leaf-found}
 use Rattle.counting.specs.Sums.{occurs-here, occurs-cons, occurs-later}
 use Rattle.laws.specs.Invariant.Height.{height}
 
-way-first : (t : Tree) (k n : ℕ) → 0 < k → 0 < occurs n (wayUp t k (some n))
+pub way-first : (t : Tree) (k n : ℕ) → 0 < k → 0 < occurs n (wayUp t k (some n))
 unfolding wayUp
 way-first t zero n h = absurd (omega arith)
 way-first t (suc k) n h = occurs-here n (wayUp t k (nodeAt t n .parent))
@@ -60,13 +57,10 @@ module _ {s : Settings} (t : Tree) {R : ℕ → ℕ} (g : Links s (nodeAt t) (le
           let c : occurs m (wayUp t k (nodeAt t i .parent)) ≡ occurs m (wayUp t k (some q)) = ap (λ y. occurs m (wayUp t k y)) f in
           ih q (r .0) (omega arith) (omega arith)
 
-  pub path-leaf-on : (x : List Float) → 0 < occurs (leafFor t (λ c. distTo s c x)) (rowPath s x t)
-  unfolding rowPath
-  path-leaf-on x = way-first t (length (t .nodes)) (leafFor t (λ c. distTo s c x)) (let r = g .root-in in omega arith)
+  pub path-leaf-on : (l : ℕ) → OnPath t l l
+  unfolding pathUp
+  path-leaf-on l = way-first t (length (t .nodes)) l (let r = g .root-in in omega arith)
 
-  pub path-parent-on : (x : List Float) (m p : ℕ) → 0 < occurs m (rowPath s x t) → nodeAt t m .parent ≡ some p → 0 < occurs p (rowPath s x t)
-  unfolding rowPath
-  path-parent-on x m p o e =
-      let l = leaf-found s t (λ c. distTo s c x) R nil nil nil g in
-      let h = height g in
-      way-parent (length (t .nodes)) (leafFor t (λ c. distTo s c x)) m p (l .0) (omega arith) o e
+  pub path-parent-on : (l m p : ℕ) → l < length (t .nodes) → OnPath t l m → nodeAt t m .parent ≡ some p → OnPath t l p
+  unfolding pathUp
+  path-parent-on l m p here o e = let h = height g in way-parent (length (t .nodes)) l m p here (omega arith) o e

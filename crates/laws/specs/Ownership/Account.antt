@@ -10,9 +10,8 @@ use lib.ListN.{length, getD}
 use lib.Ieee.{Float}
 use Rattle.binary64.specs.Whole.{whole}
 use Rattle.head.specs.declared.Settings.{Settings}
-use Rattle.rules.specs.Tree.{Tree, nodeAt, entryAt, blankNode, fresh}
+use Rattle.rules.specs.Tree.{Tree, nodeAt, entryAt, blankNode, fresh, rowsIn}
 use Rattle.rules.specs.Lists.{occurs}
-use Rattle.rules.specs.Check.{rowsIn}
 use Rattle.rules.specs.Reinsert.{collected}
 use Rattle.counting.specs.Count.{is}
 use Rattle.counting.specs.Sums.{is-sym, over, over-same, occurs-over, occurs-cons, length-over, sumTo, sum-same, over-plus, over-zero}

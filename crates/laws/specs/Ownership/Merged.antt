@@ -12,14 +12,13 @@ use Rattle.feature.specs.declared.Summary.{Summary}
 use Rattle.feature.specs.Summaries.{blank}
 use Rattle.head.specs.declared.Settings.{Settings}
 use Rattle.rules.specs.Lists.{snoc, occurs}
-use Rattle.rules.specs.Tree.{Tree, nodeAt, entryAt, onRunning, withEntries}
+use Rattle.rules.specs.Tree.{Tree, nodeAt, entryAt, onRunning, withEntries, rowsIn}
 use Rattle.rules.specs.Pairs.{sorted, siblings, cousins}
 use Rattle.rules.specs.declared.Pair.{Pair}
 use Rattle.rules.specs.Rebuild.{Merging, mergeOne, bothAlive, mergeAll, target, renumber, dropped}
 use Rattle.rules.specs.Rebuild.{withMerges, rebalanced, compacted, mergedBy, mergedWith, counted, rebuilt}
 use Rattle.rules.specs.Reinsert.{collected, replaced, replacedAll, cleared, reinserted}
 use Rattle.rules.specs.Refold.{refolded}
-use Rattle.rules.specs.Check.{rowsIn}
 use Rattle.counting.specs.Lists.{past-end}
 use Rattle.laws.specs.Inserting.Grown.{Counted}
 use Rattle.counting.specs.Count.{is, below, below-in, lt?, eq-test}

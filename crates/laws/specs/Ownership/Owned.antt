@@ -15,11 +15,10 @@ use Rattle.head.specs.declared.Settings.{Settings}
 use Rattle.rules.specs.declared.Nearest.{Nearest}
 use Rattle.rules.specs.declared.Nearest.the-variants.{Entry, Nothing}
 use Rattle.rules.specs.Lists.{changeAt, snoc, countUp, occurs}
-use Rattle.rules.specs.Tree.{push, merge, Tree, entryAt, withNodes, withEntries}
-use Rattle.rules.specs.Insert.{begun, absorbed, absorbedOrBegun, absorbs}
+use Rattle.rules.specs.Tree.{push, merge, Tree, entryAt, withNodes, withEntries, rowsIn}
+use Rattle.rules.specs.Insert.{begun, absorbed, absorbedOrBegun, absorbs, rowItem}
 use Rattle.rules.specs.declared.Pair.{Pair}
 use Rattle.rules.specs.Rebuild.{renumber, dropped}
-use Rattle.rules.specs.Check.{rowsIn}
 use Rattle.laws.specs.Invariant.Weights.{IsExact, exact-count, blank-exact, push-weigh}
 use Rattle.laws.specs.Inserting.Grown.{Hit}
 use Rattle.counting.specs.Count.{is, is-same, is-other, same?, lt?}
@@ -98,7 +97,7 @@ module _ (s : Settings) (x : List Float) (t : Tree) (exact : (c : ℕ) → c < l
           let d = is-other c (length (t .entries)) q in
           omega arith
 
-  fed-one : (e c : ℕ) → e < length (t .entries) → entryWeight (absorbed s x e t) c ≡ entryWeight t c + is c e
+  fed-one : (e c : ℕ) → e < length (t .entries) → entryWeight (absorbed (rowItem s x) e t) c ≡ entryWeight t c + is c e
   unfolding absorbed withEntries entryWeight entryAt
   fed-one e c h = go (same? c e)
     where
@@ -118,12 +117,12 @@ module _ (s : Settings) (x : List Float) (t : Tree) (exact : (c : ℕ) → c < l
           omega arith
 
   pub joined-one : (l : ℕ) (r : Nearest) → Hit (λ e. e < (length (t .entries))) r → (c : ℕ)
-      → entryWeight (absorbedOrBegun s x l r t) c ≡ entryWeight t c + is c (takerOf s x r t)
+      → entryWeight (absorbedOrBegun (rowItem s x) l r t) c ≡ entryWeight t c + is c (takerOf (rowItem s x) r t)
   unfolding absorbedOrBegun takerOf
   joined-one l Nothing h c = new-one l c
-  joined-one l (Entry e) h c = go (absorbs s x e t)
+  joined-one l (Entry e) h c = go (absorbs (rowItem s x) e t)
     where
-      go : (b : Bool) → entryWeight (cond b (absorbed s x e t) (begun l (push s x blank) t)) c ≡ entryWeight t c + is c (cond b e (length (t .entries)))
+      go : (b : Bool) → entryWeight (cond b (absorbed (rowItem s x) e t) (begun l (push s x blank) t)) c ≡ entryWeight t c + is c (cond b e (length (t .entries)))
       go true = fed-one e c h
       go false = new-one l c
 

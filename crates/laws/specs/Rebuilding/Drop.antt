@@ -11,9 +11,8 @@ use Rattle.binary64.specs.Whole.{most}
 use Rattle.feature.specs.Summaries.{blank}
 use Rattle.head.specs.declared.Settings.{Settings}
 use Rattle.rules.specs.Lists.{countUp, occurs}
-use Rattle.rules.specs.Tree.{Tree, nodeAt, entryAt, blankNode, withNodes, withEntries, listing, cap}
+use Rattle.rules.specs.Tree.{Tree, nodeAt, entryAt, blankNode, withNodes, withEntries, listing, cap, rowsIn}
 use Rattle.rules.specs.Rebuild.{renumber, keepNumbers, pruned, dropped}
-use Rattle.rules.specs.Check.{rowsIn}
 use Rattle.laws.specs.Invariant.Weights.{IsExact}
 use Rattle.counting.specs.Count.{is, below}
 use Rattle.counting.specs.Sums.{over, over-same, length-over, occurs-over, sumTo, sum-same}

@@ -11,10 +11,9 @@ use Rattle.binary64.specs.Whole.{most}
 use Rattle.feature.specs.Summaries.{blank}
 use Rattle.head.specs.declared.Settings.{Settings}
 use Rattle.rules.specs.Lists.{countUp, occurs}
-use Rattle.rules.specs.Tree.{merge, Tree, nodeAt}
+use Rattle.rules.specs.Tree.{merge, Tree, nodeAt, rowsIn}
 use Rattle.rules.specs.declared.Pair.{Pair}
 use Rattle.rules.specs.Rebuild.{Merging, mergeOne, bothAlive, mergeAll}
-use Rattle.rules.specs.Check.{rowsIn}
 use Rattle.laws.specs.Invariant.Weights.{IsExact, Exactly, exact-count, exact-is, merge-weight}
 use Rattle.counting.specs.Sums.{over, over-same, over-once, over-in, sumTo, sum-change, sum-two}
 use Rattle.counting.specs.Count.{same?}

@@ -11,10 +11,10 @@ use Rattle.binary64.specs.Whole.{most}
 use Rattle.feature.specs.declared.Summary.{Summary}
 use Rattle.head.specs.declared.Settings.{Settings}
 use Rattle.rules.specs.Lists.{occurs}
-use Rattle.rules.specs.Tree.{merge, Tree, nodeAt, entryAt, child, onRunning}
+use Rattle.rules.specs.Tree.{merge, Tree, nodeAt, entryAt, child, onRunning, rowsIn}
 use Rattle.rules.specs.Refold.{foldBalanced}
 use Rattle.rules.specs.Rebuild.{counted}
-use Rattle.rules.specs.Check.{rowsIn, totalOf}
+use Rattle.rules.specs.Check.{totalOf}
 use Rattle.laws.specs.Invariant.Weights.{AllExact, IsExact, Exactly, merge-weight, blank-exact, weightOf}
 use Rattle.counting.specs.Sums.{over, occurs-here, occurs-later}
 use Rattle.laws.specs.Invariant.Links.{Links, nil}

@@ -10,12 +10,12 @@ use Rattle.feature.specs.declared.Summary.{Summary}
 use Rattle.feature.specs.Summaries.{blank}
 use Rattle.head.specs.declared.Settings.{Settings}
 use Rattle.rules.specs.Lists.{snoc, occurs}
-use Rattle.rules.specs.Tree.{merge, distBetween, Tree, nodeAt, entryAt, blankNode, withNodes, withEntries}
+use Rattle.rules.specs.Tree.{merge, distBetween, Tree, nodeAt, entryAt, blankNode, withNodes, withEntries, rowsIn}
 use Rattle.rules.specs.Descent.{leafFor, alongPath}
 use Rattle.rules.specs.Insert.{begun}
 use Rattle.rules.specs.Split.{settled}
 use Rattle.rules.specs.Reinsert.{collected, replaced, replacedAll, cleared, reinserted}
-use Rattle.rules.specs.Check.{rowsIn, totalOf}
+use Rattle.rules.specs.Check.{totalOf}
 use Rattle.laws.specs.Invariant.Weights.{IsExact, blank-exact}
 use Rattle.laws.specs.Running.{splitUp-entries}
 use Rattle.counting.specs.Lists.{snoc-length}
@@ -23,7 +23,8 @@ use Rattle.counting.specs.Count.{is, same?, is-eq}
 use Rattle.counting.specs.Sums.{over, occurs-over, length-over, sumTo, sum-some, occurs-here, sum-ones, occurs-later}
 use Rattle.laws.specs.Invariant.Sound.{entryWeight, Caps}
 use Rattle.laws.specs.Inserting.Grown.{Whole}
-use Rattle.laws.specs.Inserting.First.{Ready, place-ready}
+use Rattle.laws.specs.Inserting.First.{Holding}
+use Rattle.laws.specs.Inserting.Items.{replaced-holds}
 use Rattle.laws.specs.Invariant.Beneath.{Frame}
 use Rattle.laws.specs.Invariant.Collected.{collect-sum}
 
@@ -51,19 +52,24 @@ place-entries s e t =
     splitUp-entries s (length (v .nodes)) l v
 
 -- a list of entries placed one after the other
-pub place-all : (s : Settings) (es : List Summary) (t : Tree) (total : ℕ) → Caps s → Ready s t total → Rows es → total + totalOf es ≤ most
-    → Ready s (replacedAll s es t) (total + totalOf es) × (length ((replacedAll s es t) .entries) ≡ length (t .entries) + length es)
+pub place-all : (s : Settings) (es : List Summary) (t : Tree) (total : ℕ) → Caps s → Holding s t total → Rows es → total + totalOf es ≤ most
+    → Holding s (replacedAll s es t) (total + totalOf es) × (length ((replacedAll s es t) .entries) ≡ length (t .entries) + length es)
 unfolding replacedAll totalOf
-place-all s [] t total c g r b = (subst (λ z. Ready s t z) (let q : total ≡ total + 0 = omega arith in q) g, omega arith)
+place-all s [] t total c g r b = (subst (λ z. Holding s t z) (let q : total ≡ total + 0 = omega arith in q) g, omega arith)
 place-all s (e ∷ es) t total c g r b =
-    let w = place-ready s e t (rowsIn e) total c g (r .0) (r .1) (omega arith) in
+    let w = replaced-holds s e t total c g (r .0) (r .1) (omega arith) in
     let i = place-all s es (replaced s e t) (total + rowsIn e) c (inr w) (r .2) (omega arith) in
     let n : length ((replaced s e t) .entries) ≡ suc (length (t .entries)) = ap (λ l. length l) (place-entries s e t) ∙ snoc-length (t .entries) e in
     let m = i .1 in (
-      subst (λ z. Ready s (replacedAll s es (replaced s e t)) z) (let q : total + rowsIn e + totalOf es ≡ total + (rowsIn e + totalOf es) = omega arith in q)
+      subst (λ z. Holding s (replacedAll s es (replaced s e t)) z) (let q : total + rowsIn e + totalOf es ≡ total + (rowsIn e + totalOf es) = omega arith in q)
           (i .0),
       omega arith,
     )
+
+-- an empty tree to place them in
+pub cleared-holds : (s : Settings) (t : Tree) → Holding s (cleared t) 0
+unfolding cleared blankNode
+cleared-holds s t = inl (record { summary = blank; zero = inl (blank-exact .0); is = refl }, refl)
 
 entries-rows : (t : Tree) (cs : List ℕ) → ((c : ℕ) → 0 < occurs c cs → IsExact (entryAt t c) × (1 ≤ entryWeight t c)) → Rows (map (entryAt t) cs)
 unfolding entryWeight
@@ -114,15 +120,15 @@ module _ {s : Settings} (t : Tree) {R : ℕ → ℕ} (total : ℕ) (caps : Caps 
 
   -- all entries placed anew: the invariant, as many rows and as many entries
   pub reinserted-whole : Whole s (reinserted s t) total × (length ((reinserted s t) .entries) ≡ length (t .entries))
-  unfolding reinserted cleared blankNode
+  unfolding reinserted cleared
   reinserted-whole =
       let u = cleared t in
-      let r = place-all s (reverse (map (entryAt t) all)) u 0 caps (inl (blank, blank-exact, refl, refl)) list-rows
+      let r = place-all s (reverse (map (entryAt t) all)) u 0 caps (cleared-holds s t) list-rows
       (let a = list-total in let b = small in omega arith) in
       let k : 0 + totalOf (reverse (map (entryAt t) all)) ≡ total = let a = list-total in omega arith in
       let m : length ((reinserted s t) .entries) ≡ length (t .entries) = r .1 ∙ (let a = list-length in omega arith) in
-      (final (subst (λ z. Ready s (reinserted s t) z) k (r .0)) m, m)
+      (final (subst (λ z. Holding s (reinserted s t) z) k (r .0)) m, m)
     where
-      final : Ready s (reinserted s t) total → length ((reinserted s t) .entries) ≡ length (t .entries) → Whole s (reinserted s t) total
+      final : Holding s (reinserted s t) total → length ((reinserted s t) .entries) ≡ length (t .entries) → Whole s (reinserted s t) total
       final (inr w) m = w
-      final (inl q) m = let z : length ((reinserted s t) .entries) ≡ 0 = ap (λ v. length (v .entries)) (q .2) in absurd (omega arith)
+      final (inl q) m = let z : length ((reinserted s t) .entries) ≡ 0 = ap (λ v. length (v .entries)) (q .0 .is) in absurd (omega arith)

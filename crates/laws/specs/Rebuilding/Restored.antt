@@ -10,10 +10,10 @@ use Rattle.binary64.specs.Whole.{most}
 use Rattle.feature.specs.declared.Summary.{Summary}
 use Rattle.feature.specs.Summaries.{blank}
 use Rattle.head.specs.declared.Settings.{Settings}
-use Rattle.rules.specs.Tree.{Node, Tree, nodeAt, entryAt, blankNode, withNodes, summed, child}
+use Rattle.rules.specs.Tree.{Node, Tree, nodeAt, entryAt, blankNode, withNodes, summed, child, rowsIn}
 use Rattle.rules.specs.Refold.{foldBalanced, refoldOne, refoldAll, refolded, preorder}
 use Rattle.rules.specs.Lists.{occurs}
-use Rattle.rules.specs.Check.{rowsIn, totalOf}
+use Rattle.rules.specs.Check.{totalOf}
 use Rattle.laws.specs.Invariant.Weights.{IsExact, Exactly, exact-count, exact-is, weightOf}
 use Rattle.counting.specs.Count.{is-other, same?}
 use Rattle.counting.specs.Sums.{over, over-same, occurs-cons, sumTo}

@@ -11,9 +11,10 @@ use Rattle.feature.specs.Summaries.{blank}
 use Rattle.head.specs.declared.Settings.{Settings}
 use Rattle.rules.specs.Lists.{changeAt}
 use Rattle.rules.specs.Tree.{push, Tree}
-use Rattle.rules.specs.Refit.{route, poured, reaccumulated}
+use Rattle.rules.specs.Refit.{poured, reaccumulated}
 use Rattle.counting.specs.Count.{eq-test}
 use Rattle.counting.specs.Lists.{change-at, change-off, length-change}
+use Rattle.rules.specs.Route.{Route}
 
 -- the rows that f sends to c, in order
 unfoldable pub rowsFor : (List Float → ℕ) → ℕ → List (List Float) → List (List Float)
@@ -24,27 +25,27 @@ unfoldable pub pushedAll : Settings → List (List Float) → Summary → Summar
 pushedAll s [] e = e
 pushedAll s (x ∷ xs) e = pushedAll s xs (push s x e)
 
-poured-rows : (s : Settings) (t : Tree) (xs : List (List Float)) (es : List Summary) (c : ℕ) → c < length es
-    → getD (poured s t xs es) c blank ≡ pushedAll s (rowsFor (route s t) c xs) (getD es c blank)
+poured-rows : (s : Settings) (way : Route) (t : Tree) (xs : List (List Float)) (es : List Summary) (c : ℕ) → c < length es
+    → getD (poured s (way t) xs es) c blank ≡ pushedAll s (rowsFor (way t) c xs) (getD es c blank)
 unfolding poured rowsFor pushedAll
-poured-rows s t [] es c h = refl
-poured-rows s t (x ∷ xs) es c h =
-    poured-rows s t xs (changeAt (push s x) (route s t x) es) c (subst (λ n. c < n) (sym (length-change (push s x) (route s t x) es)) h)
-    ∙ go (eqb c (route s t x)) refl
+poured-rows s way t [] es c h = refl
+poured-rows s way t (x ∷ xs) es c h =
+    poured-rows s way t xs (changeAt (push s x) (way t x) es) c (subst (λ n. c < n) (sym (length-change (push s x) (way t x) es)) h)
+    ∙ go (eqb c (way t x)) refl
   where
-    go : (b : Bool) → eqb c (route s t x) ≡ b
-        → pushedAll s (rowsFor (route s t) c xs) (getD (changeAt (push s x) (route s t x) es) c blank)
-        ≡ pushedAll s (cond b (x ∷ rowsFor (route s t) c xs) (rowsFor (route s t) c xs)) (getD es c blank)
+    go : (b : Bool) → eqb c (way t x) ≡ b
+        → pushedAll s (rowsFor (way t) c xs) (getD (changeAt (push s x) (way t x) es) c blank)
+        ≡ pushedAll s (cond b (x ∷ rowsFor (way t) c xs) (rowsFor (way t) c xs)) (getD es c blank)
     go true e =
-        let q : c ≡ route s t x = eq-test c (route s t x) true e .0 refl in
-        ap (λ z. pushedAll s (rowsFor (route s t) c xs) z) (subst (λ i. getD (changeAt (push s x) i es) c blank ≡ push s x (getD es c blank)) q
+        let q : c ≡ way t x = eq-test c (way t x) true e .0 refl in
+        ap (λ z. pushedAll s (rowsFor (way t) c xs) z) (subst (λ i. getD (changeAt (push s x) i es) c blank ≡ push s x (getD es c blank)) q
         (change-at (push s x) c blank es h))
-    go false e = ap (λ z. pushedAll s (rowsFor (route s t) c xs) z) (change-off (push s x) (route s t x) c blank es (eq-test c (route s t x) false e .1 refl))
+    go false e = ap (λ z. pushedAll s (rowsFor (way t) c xs) z) (change-off (push s x) (way t x) c blank es (eq-test c (way t x) false e .1 refl))
 
 -- each entry, begun afresh, holds exactly its own rows
-pub reaccumulated-rows : (s : Settings) (t : Tree) (xs : List (List Float)) (c : ℕ) → c < length (t .entries)
-    → getD (reaccumulated s t xs) c blank ≡ pushedAll s (rowsFor (route s t) c xs) blank
+pub reaccumulated-rows : (s : Settings) (way : Route) (t : Tree) (xs : List (List Float)) (c : ℕ) → c < length (t .entries)
+    → getD (reaccumulated s way t xs) c blank ≡ pushedAll s (rowsFor (way t) c xs) blank
 unfolding reaccumulated
-reaccumulated-rows s t xs c h =
-    poured-rows s t xs (map (λ _. blank) (t .entries)) c (subst (λ n. c < n) (sym (length-map (t .entries) (λ _. blank))) h)
-    ∙ ap (λ e. pushedAll s (rowsFor (route s t) c xs) e) (List·getD-map (λ _. blank) (t .entries) c blank)
+reaccumulated-rows s way t xs c h =
+    poured-rows s way t xs (map (λ _. blank) (t .entries)) c (subst (λ n. c < n) (sym (length-map (t .entries) (λ _. blank))) h)
+    ∙ ap (λ e. pushedAll s (rowsFor (way t) c xs) e) (List·getD-map (λ _. blank) (t .entries) c blank)

@@ -12,50 +12,52 @@ use Rattle.feature.specs.Summaries.{blank}
 use Rattle.head.specs.declared.Settings.{Settings}
 use Rattle.rules.specs.Lists.{changeAt, snoc, occurs}
 use Rattle.rules.specs.Tree.{push, Tree, nodeAt, entryAt, withEntries}
-use Rattle.rules.specs.Refit.{route, poured, reaccumulated}
+use Rattle.rules.specs.Refit.{poured, reaccumulated}
 use Rattle.counting.specs.Count.{same?}
 use Rattle.counting.specs.Lists.{change-at, change-off, length-change}
 use Rattle.laws.specs.Invariant.Links.{Links, nil}
 use Rattle.laws.specs.Demand.{owns, Made}
 use Rattle.laws.specs.Ownership.Made.{AllMade, map-snoc, blank-made, taker-made, other-made}
 use Rattle.laws.specs.Ownership.Owned.{owner-in}
-use Rattle.laws.specs.Refitting.Round.{w, route-in, len-w, poured-owned}
+use Rattle.laws.specs.Refitting.Round.{w, len-w, poured-owned}
+use Rattle.rules.specs.Route.{Route}
+use Rattle.laws.specs.Refitting.Names.{Names}
 
 -- the rows zs are poured, and the rows xs follow
-poured-made : (s : Settings) (t : Tree) (n : ℕ) → ((x : List Float) → route s t x < n) → (xs zs : List (List Float)) (es : List Summary) → length es ≡ n
-    → ((c : ℕ) → c < n → Made s zs (getD es c blank) (owns (map (route s t) zs) c)) → (c : ℕ) → c < n
-    → Made s (zs ++ xs) (getD (poured s t xs es) c blank) (owns (map (route s t) (zs ++ xs)) c)
+poured-made : (s : Settings) (way : Route) (t : Tree) (n : ℕ) → ((x : List Float) → way t x < n) → (xs zs : List (List Float)) (es : List Summary) → length es ≡ n
+    → ((c : ℕ) → c < n → Made s zs (getD es c blank) (owns (map (way t) zs) c)) → (c : ℕ) → c < n
+    → Made s (zs ++ xs) (getD (poured s (way t) xs es) c blank) (owns (map (way t) (zs ++ xs)) c)
 unfolding poured snoc
-poured-made s t n inn [] zs es len m c h = subst (λ l. Made s l (getD es c blank) (owns (map (route s t) l) c)) (sym (append-nil zs)) (m c h)
-poured-made s t n inn (x ∷ xs) zs es len m c h =
-    subst (λ l. Made s l (getD (poured s t xs (changeAt (push s x) (route s t x) es)) c blank) (owns (map (route s t) l) c)) (append-assoc zs (x ∷ []) xs)
-    (poured-made s t n inn xs (snoc zs x) (changeAt (push s x) (route s t x) es) (length-change (push s x) (route s t x) es ∙ len)
-    (λ d q. step d q (same? d (route s t x))) c h)
+poured-made s way t n inn [] zs es len m c h = subst (λ l. Made s l (getD es c blank) (owns (map (way t) l) c)) (sym (append-nil zs)) (m c h)
+poured-made s way t n inn (x ∷ xs) zs es len m c h =
+    subst (λ l. Made s l (getD (poured s (way t) xs (changeAt (push s x) (way t x) es)) c blank) (owns (map (way t) l) c)) (append-assoc zs (x ∷ []) xs)
+    (poured-made s way t n inn xs (snoc zs x) (changeAt (push s x) (way t x) es) (length-change (push s x) (way t x) es ∙ len)
+    (λ d q. step d q (same? d (way t x))) c h)
   where
-    step : (d : ℕ) → d < n → (d ≡ route s t x) ⊎ (d ≢ route s t x)
-        → Made s (snoc zs x) (getD (changeAt (push s x) (route s t x) es) d blank) (owns (map (route s t) (snoc zs x)) d)
+    step : (d : ℕ) → d < n → (d ≡ way t x) ⊎ (d ≢ way t x)
+        → Made s (snoc zs x) (getD (changeAt (push s x) (way t x) es) d blank) (owns (map (way t) (snoc zs x)) d)
     step d q (inl e) =
-        subst (λ l. Made s (snoc zs x) (getD (changeAt (push s x) (route s t x) es) d blank) (owns l d)) (sym (map-snoc (route s t) zs x))
-        (subst (λ y. Made s (snoc zs x) y (owns (snoc (map (route s t) zs) (route s t x)) d))
+        subst (λ l. Made s (snoc zs x) (getD (changeAt (push s x) (way t x) es) d blank) (owns l d)) (sym (map-snoc (way t) zs x))
+        (subst (λ y. Made s (snoc zs x) y (owns (snoc (map (way t) zs) (way t x)) d))
         (sym (subst (λ i. getD (changeAt (push s x) i es) d blank ≡ push s x (getD es d blank)) e
         (change-at (push s x) d blank es (subst (λ z. d < z) (sym len) q))))
-        (taker-made zs x (map (route s t) zs) (length-map zs (route s t)) d (route s t x) (getD es d blank) e (m d q)))
+        (taker-made zs x (map (way t) zs) (length-map zs (way t)) d (way t x) (getD es d blank) e (m d q)))
     step d q (inr e) =
-        subst (λ l. Made s (snoc zs x) (getD (changeAt (push s x) (route s t x) es) d blank) (owns l d)) (sym (map-snoc (route s t) zs x))
-        (subst (λ y. Made s (snoc zs x) y (owns (snoc (map (route s t) zs) (route s t x)) d)) (sym (change-off (push s x) (route s t x) d blank es e))
-        (other-made zs x (map (route s t) zs) (length-map zs (route s t)) d (route s t x) (getD es d blank) e (m d q)))
+        subst (λ l. Made s (snoc zs x) (getD (changeAt (push s x) (way t x) es) d blank) (owns l d)) (sym (map-snoc (way t) zs x))
+        (subst (λ y. Made s (snoc zs x) y (owns (snoc (map (way t) zs) (way t x)) d)) (sym (change-off (push s x) (way t x) d blank es e))
+        (other-made zs x (map (way t) zs) (length-map zs (way t)) d (way t x) (getD es d blank) e (m d q)))
 
-module _ {s : Settings} (xs : List (List Float)) (small : length xs ≤ most) (t : Tree) {R : ℕ → ℕ} (g : Links s (nodeAt t) (length (t .nodes)) (t .root)
+module _ {s : Settings} {way : Route} (names : Names s way) (xs : List (List Float)) (small : length xs ≤ most) (t : Tree) {R : ℕ → ℕ} (g : Links s (nodeAt t) (length (t .nodes)) (t .root)
     (length (t .entries)) R nil nil nil) where
   -- from empty entries on
-  fresh-made : (c : ℕ) → c < length (t .entries) → Made s xs (getD (reaccumulated s t xs) c blank) (owns (map (route s t) xs) c)
+  fresh-made : (c : ℕ) → c < length (t .entries) → Made s xs (getD (reaccumulated s way t xs) c blank) (owns (map (way t) xs) c)
   unfolding reaccumulated
   fresh-made c h =
-      poured-made s t (length (t .entries)) (route-in xs small t g) xs [] (map (λ _. blank) (t .entries)) (length-map (t .entries) (λ _. blank))
+      poured-made s way t (length (t .entries)) (names t R g) xs [] (map (λ _. blank) (t .entries)) (length-map (t .entries) (λ _. blank))
       (λ d q. subst (λ y. Made s [] y (owns [] d)) (sym (List·getD-map (λ _. blank) (t .entries) d blank)) (blank-made [] d (unfold occurs in refl))) c h
 
   -- after a pour each owner is made of the rows that were routed to it
-  pub pour-made : AllMade s xs (entryAt (w xs small t g)) (map (route s t) xs)
+  pub pour-made : AllMade s xs (entryAt (w names xs small t g)) (map (way t) xs)
   unfolding entryAt withEntries
   pour-made c o =
-      fresh-made c (let q = owner-in (w xs small t g) (map (route s t) xs) (poured-owned xs small t g) c o in let n = len-w xs small t g in omega arith)
+      fresh-made c (let q = owner-in (w names xs small t g) (map (way t) xs) (poured-owned names xs small t g) c o in let n = len-w names xs small t g in omega arith)

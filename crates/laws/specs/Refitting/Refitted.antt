@@ -11,12 +11,11 @@ use Rattle.binary64.specs.Whole.{most}
 use Rattle.feature.specs.Summaries.{blank}
 use Rattle.head.specs.declared.Settings.{Settings}
 use Rattle.rules.specs.Lists.{every}
-use Rattle.rules.specs.Tree.{Tree, nodeAt, entryAt, withEntries, withNodes}
+use Rattle.rules.specs.Tree.{Tree, nodeAt, entryAt, withEntries, withNodes, rowsIn}
 use Rattle.rules.specs.Rebuild.{renumber, dropped}
 use Rattle.rules.specs.Reinsert.{reinserted}
 use Rattle.rules.specs.Refold.{refolded}
-use Rattle.rules.specs.Refit.{route, anyHollow, refitRounds, refitted}
-use Rattle.rules.specs.Check.{rowsIn}
+use Rattle.rules.specs.Refit.{anyHollow, refitRounds, refitted}
 use Rattle.counting.specs.Count.{eq-test}
 use Rattle.laws.specs.Invariant.Links.{Links, nil}
 use Rattle.laws.specs.Invariant.Sound.{entryWeight, Caps}
@@ -28,6 +27,8 @@ use Rattle.laws.specs.Ownership.Owned.{Owned}
 use Rattle.laws.specs.Refitting.Round.{u, bs, again-whole, w, few-u, moved-again, len-w, pos-u, all-stale, poured-owned, drop-stale, moved-u}
 use Rattle.laws.specs.Refitting.PouredMade.{pour-made}
 use Rattle.laws.specs.Running.{reinserted-running, refolded-entries, refolded-running}
+use Rattle.rules.specs.Route.{Route}
+use Rattle.laws.specs.Refitting.Names.{Names}
 
 -- ---- the rounds
 
@@ -41,92 +42,92 @@ and-not true c e = absurd (false≢true e)
 and-not false c e = refl
 
 -- the rounds end in a tree of right links and entries, and in its account
-pub rounds-whole : (s : Settings) (xs : List (List Float)) (top : ℕ) → Caps s → 0 < length xs → length xs ≤ most → (k r : ℕ) (t : Tree) (R : ℕ → ℕ) (a : List ℕ)
+pub rounds-whole : (s : Settings) (way : Route) → Names s way → (xs : List (List Float)) (top : ℕ) → Caps s → 0 < length xs → length xs ≤ most → (k r : ℕ) (t : Tree) (R : ℕ → ℕ) (a : List ℕ)
     → Links s (nodeAt t) (length (t .nodes)) (t .root) (length (t .entries)) R nil nil nil → length (t .entries) ≤ top
     → (k ≡ 0 → Stale s t R (length xs) × Owned t a × AllMade s xs (entryAt t) a)
-    → Ended s xs top t (refitRounds s xs k r t) (refitOwners s xs k r t a)
+    → Ended s xs top t (refitRounds s way xs k r t) (refitOwners s way xs k r t a)
 unfolding refitRounds refitOwners
-rounds-whole s xs top c pos small zero r t R a g few z = ((R, z refl .0), z refl .1, few, refl, z refl .2)
-rounds-whole s xs top c pos small (suc k) r t R a g few z =
-    go (every (λ b. b) (bs xs small t g)) refl (not (anyHollow ((u xs small t g) .nodes)) && leb 1 r) refl
-    (λ v b S gs fs zs. rounds-whole s xs top c pos small k (suc r) v S b gs fs zs)
+rounds-whole s way names xs top c pos small zero r t R a g few z = ((R, z refl .0), z refl .1, few, refl, z refl .2)
+rounds-whole s way names xs top c pos small (suc k) r t R a g few z =
+    go (every (λ b. b) (bs names xs small t g)) refl (not (anyHollow ((u names xs small t g) .nodes)) && leb 1 r) refl
+    (λ v b S gs fs zs. rounds-whole s way names xs top c pos small k (suc r) v S b gs fs zs)
   where
     after : Tree
-    after = reinserted s (u xs small t g)
+    after = reinserted s (u names xs small t g)
 
     owners : List ℕ
-    owners = map (λ c. reinsertedTo s (u xs small t g) c) (map (renumber (bs xs small t g)) (map (route s t) xs))
+    owners = map (λ c. reinsertedTo s (u names xs small t g) c) (map (renumber (bs names xs small t g)) (map (way t) xs))
 
-    again : every (λ b. b) (bs xs small t g) ≡ false
+    again : every (λ b. b) (bs names xs small t g) ≡ false
         → ((v : Tree) (b : List ℕ) (S : ℕ → ℕ) → Links s (nodeAt v) (length (v .nodes)) (v .root) (length (v .entries)) S nil nil nil
         → length (v .entries) ≤ top → (k ≡ 0 → Stale s v S (length xs) × Owned v b × AllMade s xs (entryAt v) b)
-        → Ended s xs top v (refitRounds s xs k (suc r) v) (refitOwners s xs k (suc r) v b))
-        → Ended s xs top t (refitRounds s xs k (suc r) after) (refitOwners s xs k (suc r) after owners)
+        → Ended s xs top v (refitRounds s way xs k (suc r) v) (refitOwners s way xs k (suc r) v b))
+        → Ended s xs top t (refitRounds s way xs k (suc r) after) (refitOwners s way xs k (suc r) after owners)
     again e ih =
-        let q = again-whole xs small t g c pos in
+        let q = again-whole names xs small t g c pos in
         let x = q .0 in
         let n = q .1 in
-        let f = few-u xs small t g e in
+        let f = few-u names xs small t g e in
         let i = ih after owners (x .0) (x .1 .links) (omega arith)
-        (λ _. (stale-of s after (x .0) (length xs) (x .1) (x .2), moved-again xs small t g .0, made)) in
+        (λ _. (stale-of s after (x .0) (length xs) (x .1) (x .2), moved-again names xs small t g .0, made)) in
         (i .0, i .1, i .2, i .3 ∙ same, i .4)
       where
         made : AllMade s xs (entryAt after) owners
-        made = moved-again xs small t g .1 xs (moved-u xs small t g .1 xs (pour-made xs small t g))
+        made = moved-again names xs small t g .1 xs (moved-u names xs small t g .1 xs (pour-made names xs small t g))
 
         same : after .running ≡ t .running
-        same = reinserted-running s (u xs small t g) ∙ (unfold dropped withEntries withNodes in refl)
+        same = reinserted-running s (u names xs small t g) ∙ (unfold dropped withEntries withNodes in refl)
 
-    go : (p : Bool) → every (λ b. b) (bs xs small t g) ≡ p → (q : Bool) → (not (anyHollow ((u xs small t g) .nodes)) && leb 1 r) ≡ q
+    go : (p : Bool) → every (λ b. b) (bs names xs small t g) ≡ p → (q : Bool) → (not (anyHollow ((u names xs small t g) .nodes)) && leb 1 r) ≡ q
         → ((v : Tree) (b : List ℕ) (S : ℕ → ℕ) → Links s (nodeAt v) (length (v .nodes)) (v .root) (length (v .entries)) S nil nil nil
         → length (v .entries) ≤ top → (k ≡ 0 → Stale s v S (length xs) × Owned v b × AllMade s xs (entryAt v) b)
-        → Ended s xs top v (refitRounds s xs k (suc r) v) (refitOwners s xs k (suc r) v b))
+        → Ended s xs top v (refitRounds s way xs k (suc r) v) (refitOwners s way xs k (suc r) v b))
         → Ended s xs top t
-        (elim p as (λ _. Tree) [ true ↦ w xs small t g | false ↦ elim q as (λ _. Tree) [ true ↦ u xs small t g | false ↦ refitRounds s xs k (suc r) after ] ])
+        (elim p as (λ _. Tree) [ true ↦ w names xs small t g | false ↦ elim q as (λ _. Tree) [ true ↦ u names xs small t g | false ↦ refitRounds s way xs k (suc r) after ] ])
         (elim p as (λ _. List ℕ) [
-          | true ↦ map (route s t) xs
+          | true ↦ map (way t) xs
           | false ↦ elim q as (λ _. List ℕ) [
-            | true ↦ map (renumber (bs xs small t g))
-                (map (route s t) xs)
-            | false ↦ refitOwners s xs k (suc r) after owners
+            | true ↦ map (renumber (bs names xs small t g))
+                (map (way t) xs)
+            | false ↦ refitOwners s way xs k (suc r) after owners
           ]
         ])
-    go true e q f ih = ((R, all-stale xs small t g e), poured-owned xs small t g, lw, (unfold withEntries in refl), pour-made xs small t g)
+    go true e q f ih = ((R, all-stale names xs small t g e), poured-owned names xs small t g, lw, (unfold withEntries in refl), pour-made names xs small t g)
       where
-        lw : length ((w xs small t g) .entries) ≤ top
-        lw = let a = len-w xs small t g in omega arith
+        lw : length ((w names xs small t g) .entries) ≤ top
+        lw = let a = len-w names xs small t g in omega arith
     go false e true f ih = (
-      (R, drop-stale xs small t g (and-not (anyHollow ((u xs small t g) .nodes)) (leb 1 r) f)),
-      moved-u xs small t g .0,
-      (let a = few-u xs small t g e in omega arith),
+      (R, drop-stale names xs small t g (and-not (anyHollow ((u names xs small t g) .nodes)) (leb 1 r) f)),
+      moved-u names xs small t g .0,
+      (let a = few-u names xs small t g e in omega arith),
       (unfold dropped withEntries withNodes in refl),
-      moved-u xs small t g .1 xs (pour-made xs small t g),
+      moved-u names xs small t g .1 xs (pour-made names xs small t g),
     )
     go false e false f ih = again e ih
 
 -- ---- the refit
 
 -- rows into a tree with entries: the invariant, with the refit's rows as the total; no more entries; what runs along stays
-pub refit-whole : (s : Settings) (x : List Float) (xs : List (List Float)) (t : Tree) (old : ℕ) (a : List ℕ) → Caps s → Whole s t old
+pub refit-whole : (s : Settings) (way : Route) → Names s way → (x : List Float) (xs : List (List Float)) (t : Tree) (old : ℕ) (a : List ℕ) → Caps s → Whole s t old
     → 0 < length (t .entries) → suc (length xs) ≤ most
-    → Whole s (refitted s (x ∷ xs) t) (suc (length xs)) × Owned (refitted s (x ∷ xs) t) (ownersRefit s (x ∷ xs) t a)
-    × (length ((refitted s (x ∷ xs) t) .entries) ≤ length (t .entries)) × ((refitted s (x ∷ xs) t) .running ≡ t .running)
-    × AllMade s (x ∷ xs) (entryAt (refitted s (x ∷ xs) t)) (ownersRefit s (x ∷ xs) t a)
+    → Whole s (refitted s way (x ∷ xs) t) (suc (length xs)) × Owned (refitted s way (x ∷ xs) t) (ownersRefit s way (x ∷ xs) t a)
+    × (length ((refitted s way (x ∷ xs) t) .entries) ≤ length (t .entries)) × ((refitted s way (x ∷ xs) t) .running ≡ t .running)
+    × AllMade s (x ∷ xs) (entryAt (refitted s way (x ∷ xs) t)) (ownersRefit s way (x ∷ xs) t a)
 unfolding refitted ownersRefit
-refit-whole s x xs t old a c w pos small = go (eqb (length (t .entries)) 0) refl
+refit-whole s way names x xs t old a c w pos small = go (eqb (length (t .entries)) 0) refl
   where
     n : ℕ
     n = length (t .entries)
 
     v : Tree
-    v = refitRounds s (x ∷ xs) (length (t .entries)) 0 t
+    v = refitRounds s way (x ∷ xs) (length (t .entries)) 0 t
 
     b : List ℕ
-    b = refitOwners s (x ∷ xs) (length (t .entries)) 0 t a
+    b = refitOwners s way (x ∷ xs) (length (t .entries)) 0 t a
 
     end : Ended s (x ∷ xs) (length (t .entries)) t v b
     end =
-        rounds-whole s (x ∷ xs) (length (t .entries)) c (omega arith) small (length (t .entries)) 0 t (w .0) a (w .1 .links) (omega arith)
+        rounds-whole s way names (x ∷ xs) (length (t .entries)) c (omega arith) small (length (t .entries)) 0 t (w .0) a (w .1 .links) (omega arith)
         (λ z. absurd (omega arith))
 
     same-e : (refolded s v) .entries ≡ v .entries
@@ -157,53 +158,53 @@ refit-whole s x xs t old a c w pos small = go (eqb (length (t .entries)) 0) refl
 
 -- ---- the fuel never decides: whatever is given, from the count of entries up, the rounds end alike
 
-pub fuel-enough : (s : Settings) (xs : List (List Float)) → Caps s → 0 < length xs → length xs ≤ most → (k j r : ℕ) (t : Tree) (R : ℕ → ℕ) (a : List ℕ)
+pub fuel-enough : (s : Settings) (way : Route) → Names s way → (xs : List (List Float)) → Caps s → 0 < length xs → length xs ≤ most → (k j r : ℕ) (t : Tree) (R : ℕ → ℕ) (a : List ℕ)
     → Links s (nodeAt t) (length (t .nodes)) (t .root) (length (t .entries)) R nil nil nil → 0 < length (t .entries) → length (t .entries) ≤ k
     → length (t .entries) ≤ j
-    → (refitRounds s xs k r t ≡ refitRounds s xs j r t) × (refitOwners s xs k r t a ≡ refitOwners s xs j r t a)
+    → (refitRounds s way xs k r t ≡ refitRounds s way xs j r t) × (refitOwners s way xs k r t a ≡ refitOwners s way xs j r t a)
 unfolding refitRounds refitOwners
-fuel-enough s xs c pos small zero j r t R a g some-e hk hj = absurd (omega arith)
-fuel-enough s xs c pos small (suc k) zero r t R a g some-e hk hj = absurd (omega arith)
-fuel-enough s xs c pos small (suc k) (suc j) r t R a g some-e hk hj =
-    go (every (λ b. b) (bs xs small t g)) refl (not (anyHollow ((u xs small t g) .nodes)) && leb 1 r) (λ v S b gs p hk hj. fuel-enough s xs c pos small k j
+fuel-enough s way names xs c pos small zero j r t R a g some-e hk hj = absurd (omega arith)
+fuel-enough s way names xs c pos small (suc k) zero r t R a g some-e hk hj = absurd (omega arith)
+fuel-enough s way names xs c pos small (suc k) (suc j) r t R a g some-e hk hj =
+    go (every (λ b. b) (bs names xs small t g)) refl (not (anyHollow ((u names xs small t g) .nodes)) && leb 1 r) (λ v S b gs p hk hj. fuel-enough s way names xs c pos small k j
     (suc r) v S b gs p hk hj)
   where
     after : Tree
-    after = reinserted s (u xs small t g)
+    after = reinserted s (u names xs small t g)
 
     owners : List ℕ
-    owners = map (λ c. reinsertedTo s (u xs small t g) c) (map (renumber (bs xs small t g)) (map (route s t) xs))
+    owners = map (λ c. reinsertedTo s (u names xs small t g) c) (map (renumber (bs names xs small t g)) (map (way t) xs))
 
-    go : (p : Bool) → every (λ b. b) (bs xs small t g) ≡ p → (q : Bool)
+    go : (p : Bool) → every (λ b. b) (bs names xs small t g) ≡ p → (q : Bool)
         → ((v : Tree) (S : ℕ → ℕ) (b : List ℕ) → Links s (nodeAt v) (length (v .nodes)) (v .root) (length (v .entries)) S nil nil nil → 0 < length (v .entries)
         → length (v .entries) ≤ k → length (v .entries) ≤ j
-        → (refitRounds s xs k (suc r) v ≡ refitRounds s xs j (suc r) v) × (refitOwners s xs k (suc r) v b ≡ refitOwners s xs j (suc r) v b))
+        → (refitRounds s way xs k (suc r) v ≡ refitRounds s way xs j (suc r) v) × (refitOwners s way xs k (suc r) v b ≡ refitOwners s way xs j (suc r) v b))
         → (_≡_ {A = Tree}
-        (elim p as (λ _. Tree) [ true ↦ w xs small t g | false ↦ elim q as (λ _. Tree) [ true ↦ u xs small t g | false ↦ refitRounds s xs k (suc r) after ] ])
-        (elim p as (λ _. Tree) [ true ↦ w xs small t g | false ↦ elim q as (λ _. Tree) [ true ↦ u xs small t g | false ↦ refitRounds s xs j (suc r) after ] ]))
+        (elim p as (λ _. Tree) [ true ↦ w names xs small t g | false ↦ elim q as (λ _. Tree) [ true ↦ u names xs small t g | false ↦ refitRounds s way xs k (suc r) after ] ])
+        (elim p as (λ _. Tree) [ true ↦ w names xs small t g | false ↦ elim q as (λ _. Tree) [ true ↦ u names xs small t g | false ↦ refitRounds s way xs j (suc r) after ] ]))
         × (_≡_ {A = List ℕ}
         (elim p as (λ _. List ℕ) [
-          | true ↦ map (route s t) xs
+          | true ↦ map (way t) xs
           | false ↦ elim q as (λ _. List ℕ) [
-            | true ↦ map (renumber (bs xs small t g))
-                (map (route s t) xs)
-            | false ↦ refitOwners s xs k (suc r) after owners
+            | true ↦ map (renumber (bs names xs small t g))
+                (map (way t) xs)
+            | false ↦ refitOwners s way xs k (suc r) after owners
           ]
         ])
         (elim p as (λ _. List ℕ) [
-          | true ↦ map (route s t) xs
+          | true ↦ map (way t) xs
           | false ↦ elim q as (λ _. List ℕ) [
-            | true ↦ map (renumber (bs xs small t g))
-                (map (route s t) xs)
-            | false ↦ refitOwners s xs j (suc r) after owners
+            | true ↦ map (renumber (bs names xs small t g))
+                (map (way t) xs)
+            | false ↦ refitOwners s way xs j (suc r) after owners
           ]
         ]))
     go true e q ih = (refl, refl)
     go false e true ih = (refl, refl)
     go false e false ih =
-        let q = again-whole xs small t g c pos in
+        let q = again-whole names xs small t g c pos in
         let x = q .0 in
         let n = q .1 in
-        let f = few-u xs small t g e in
-        let d = pos-u xs small t g pos in
+        let f = few-u names xs small t g e in
+        let d = pos-u names xs small t g pos in
         ih after (x .0) owners (x .1 .links) (omega arith) (omega arith) (omega arith)

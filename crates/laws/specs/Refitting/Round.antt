@@ -16,19 +16,16 @@ use Rattle.feature.specs.declared.Summary.{Summary}
 use Rattle.feature.specs.Summaries.{blank}
 use Rattle.head.specs.declared.Settings.{Settings}
 use Rattle.rules.specs.Lists.{changeAt, countUp, occurs, every}
-use Rattle.rules.specs.Tree.{push, distTo, Node, Tree, nodeAt, entryAt, blankNode, withEntries}
-use Rattle.rules.specs.Descent.{leafFor, closest}
+use Rattle.rules.specs.Tree.{push, Node, Tree, nodeAt, entryAt, blankNode, withEntries}
 use Rattle.rules.specs.Rebuild.{renumber, dropped}
 use Rattle.rules.specs.Reinsert.{reinserted}
-use Rattle.rules.specs.Refit.{route, poured, reaccumulated, used, hollow, anyHollow}
+use Rattle.rules.specs.Refit.{poured, reaccumulated, used, hollow, anyHollow}
 use Rattle.laws.specs.Invariant.Weights.{IsExact, Exactly, exact-count, exact-is, push-weigh, blank-exact}
 use Rattle.counting.specs.Count.{is, is-same, is-other, is-le, same?, lt?, eq-test}
 use Rattle.counting.specs.Sums.{over, occurs-cons, sumTo, sum-same}
 use Rattle.counting.specs.Lists.{change-at, change-off, length-change}
 use Rattle.laws.specs.Invariant.Links.{Links, nil}
 use Rattle.laws.specs.Invariant.Sound.{entryWeight, Caps}
-use Rattle.laws.specs.Inserting.Descent.{leaf-found, first-in}
-use Rattle.laws.specs.Inserting.Listed.{held-in}
 use Rattle.laws.specs.Inserting.Grown.{Counted, Whole}
 use Rattle.laws.specs.Invariant.Beneath.{Frame}
 use Rattle.counting.specs.Flags.{alive, alive-up, alive-down, flag?, up-in}
@@ -40,53 +37,55 @@ use Rattle.laws.specs.Ownership.Made.{AllMade}
 use Rattle.laws.specs.Ownership.Owned.{Owned, weight-past, drop-carries}
 use Rattle.laws.specs.Ownership.Merged.{reinsert-carries}
 use Rattle.laws.specs.Ownership.Account.{owned-sum}
+use Rattle.rules.specs.Route.{Route}
+use Rattle.laws.specs.Refitting.Names.{Names}
 
 -- ---- pouring
 
-pour-length : (s : Settings) (t : Tree) (xs : List (List Float)) (es : List Summary) → length (poured s t xs es) ≡ length es
+pour-length : (s : Settings) (way : Route) (t : Tree) (xs : List (List Float)) (es : List Summary) → length (poured s (way t) xs es) ≡ length es
 unfolding poured
-pour-length s t [] es = refl
-pour-length s t (x ∷ xs) es = pour-length s t xs (changeAt (push s x) (route s t x) es) ∙ length-change (push s x) (route s t x) es
+pour-length s way t [] es = refl
+pour-length s way t (x ∷ xs) es = pour-length s way t xs (changeAt (push s x) (way t x) es) ∙ length-change (push s x) (way t x) es
 
-pub reaccumulated-length : (s : Settings) (t : Tree) (xs : List (List Float)) → length (reaccumulated s t xs) ≡ length (t .entries)
+pub reaccumulated-length : (s : Settings) (way : Route) (t : Tree) (xs : List (List Float)) → length (reaccumulated s way t xs) ≡ length (t .entries)
 unfolding reaccumulated
-reaccumulated-length s t xs = pour-length s t xs (map (λ _. blank) (t .entries)) ∙ length-map (t .entries) (λ _. blank)
+reaccumulated-length s way t xs = pour-length s way t xs (map (λ _. blank) (t .entries)) ∙ length-map (t .entries) (λ _. blank)
 
 -- an entry weighs what it did and the rows that are routed to it
-poured-weigh : (s : Settings) (t : Tree) (n : ℕ) → ((x : List Float) → route s t x < n) → (xs : List (List Float)) (es : List Summary) (v : ℕ → ℕ)
+poured-weigh : (s : Settings) (way : Route) (t : Tree) (n : ℕ) → ((x : List Float) → way t x < n) → (xs : List (List Float)) (es : List Summary) (v : ℕ → ℕ)
     → length es ≡ n → ((c : ℕ) → c < n → Exactly (getD es c blank) (v c))
-    → ((c : ℕ) → v c + length xs ≤ most) → (c : ℕ) → c < n → Exactly (getD (poured s t xs es) c blank) (v c + occurs c (map (route s t) xs))
+    → ((c : ℕ) → v c + length xs ≤ most) → (c : ℕ) → c < n → Exactly (getD (poured s (way t) xs es) c blank) (v c + occurs c (map (way t) xs))
 unfolding poured
-poured-weigh s t n inn [] es v len ex b c h =
+poured-weigh s way t n inn [] es v len ex b c h =
     subst (λ z. Exactly (getD es c blank) z) (let z : occurs c [] ≡ 0 = unfold occurs in refl in let q : v c ≡ v c + occurs c [] = omega arith in q) (ex c h)
-poured-weigh s t n inn (x ∷ xs) es v len ex b c h =
-    subst (λ z. Exactly (getD (poured s t xs (changeAt (push s x) (route s t x) es)) c blank) z)
-    (let p = occurs-cons c (route s t x) (map (route s t) xs) in let q : v c + is c (route s t x) + occurs c (map (route s t) xs) ≡ v c + occurs c
-    (route s t x ∷ map (route s t) xs) = omega arith in q)
-    (poured-weigh s t n inn xs (changeAt (push s x) (route s t x) es) (λ c. v c + is c (route s t x)) (length-change (push s x) (route s t x) es ∙ len)
-    (λ d q. each d q (same? d (route s t x))) (λ d. let p = b d in let q = is-le d (route s t x) in omega arith) c h)
+poured-weigh s way t n inn (x ∷ xs) es v len ex b c h =
+    subst (λ z. Exactly (getD (poured s (way t) xs (changeAt (push s x) (way t x) es)) c blank) z)
+    (let p = occurs-cons c (way t x) (map (way t) xs) in let q : v c + is c (way t x) + occurs c (map (way t) xs) ≡ v c + occurs c
+    (way t x ∷ map (way t) xs) = omega arith in q)
+    (poured-weigh s way t n inn xs (changeAt (push s x) (way t x) es) (λ c. v c + is c (way t x)) (length-change (push s x) (way t x) es ∙ len)
+    (λ d q. each d q (same? d (way t x))) (λ d. let p = b d in let q = is-le d (way t x) in omega arith) c h)
   where
-    each : (d : ℕ) → d < n → (d ≡ route s t x) ⊎ (d ≢ route s t x) → Exactly (getD (changeAt (push s x) (route s t x) es) d blank) (v d + is d (route s t x))
+    each : (d : ℕ) → d < n → (d ≡ way t x) ⊎ (d ≢ way t x) → Exactly (getD (changeAt (push s x) (way t x) es) d blank) (v d + is d (way t x))
     each d q (inl e) =
-        subst (λ z. Exactly (getD (changeAt (push s x) (route s t x) es) d blank) z) (let p = is-same d (route s t x) e in let q : suc (v d) ≡ v d + is d
-        (route s t x) = omega arith in q) (subst (λ m. Exactly m (suc (v d)))
+        subst (λ z. Exactly (getD (changeAt (push s x) (way t x) es) d blank) z) (let p = is-same d (way t x) e in let q : suc (v d) ≡ v d + is d
+        (way t x) = omega arith in q) (subst (λ m. Exactly m (suc (v d)))
         (sym (subst (λ i. getD (changeAt (push s x) i es) d blank ≡ push s x (getD es d blank)) e
         (change-at (push s x) d blank es (subst (λ z. d < z) (sym len) q))))
         (push-weigh s x (getD es d blank) (v d) (ex d q) (let p = b d in omega arith)))
     each d q (inr e) =
-        subst (λ z. Exactly (getD (changeAt (push s x) (route s t x) es) d blank) z) (let p = is-other d (route s t x) e in let q : v d ≡ v d + is d
-        (route s t x) = omega arith in q) (subst (λ m. Exactly m (v d)) (sym (change-off (push s x) (route s t x) d blank es e)) (ex d q))
+        subst (λ z. Exactly (getD (changeAt (push s x) (way t x) es) d blank) z) (let p = is-other d (way t x) e in let q : v d ≡ v d + is d
+        (way t x) = omega arith in q) (subst (λ m. Exactly m (v d)) (sym (change-off (push s x) (way t x) d blank es e)) (ex d q))
 
-none-past : (s : Settings) (t : Tree) (n : ℕ) → ((x : List Float) → route s t x < n) → (xs : List (List Float)) (c : ℕ) → n ≤ c
-    → occurs c (map (route s t) xs) ≡ 0
-none-past s t n inn [] c h = unfold occurs in refl
-none-past s t n inn (x ∷ xs) c h =
-    let p = occurs-cons c (route s t x) (map (route s t) xs) in
-    let q = is-other c (route s t x) (λ e. clash (inn x) e) in
-    let r = none-past s t n inn xs c h in
+none-past : (s : Settings) (way : Route) (t : Tree) (n : ℕ) → ((x : List Float) → way t x < n) → (xs : List (List Float)) (c : ℕ) → n ≤ c
+    → occurs c (map (way t) xs) ≡ 0
+none-past s way t n inn [] c h = unfold occurs in refl
+none-past s way t n inn (x ∷ xs) c h =
+    let p = occurs-cons c (way t x) (map (way t) xs) in
+    let q = is-other c (way t x) (λ e. clash (inn x) e) in
+    let r = none-past s way t n inn xs c h in
     omega arith
   where
-    clash : route s t x < n → c ≡ route s t x → ⊥
+    clash : way t x < n → c ≡ way t x → ⊥
     clash a e = omega arith
 
 -- ---- flags
@@ -136,31 +135,26 @@ some-left n e f = go (eqb (length (n .list)) 0) refl (subst (λ b. (b && eqb (le
 
 -- ---- one round
 
-module _ {s : Settings} (xs : List (List Float)) (small : length xs ≤ most) (t : Tree) {R : ℕ → ℕ} (g : Links s (nodeAt t) (length (t .nodes)) (t .root)
+module _ {s : Settings} {way : Route} (names : Names s way) (xs : List (List Float)) (small : length xs ≤ most) (t : Tree) {R : ℕ → ℕ} (g : Links s (nodeAt t) (length (t .nodes)) (t .root)
     (length (t .entries)) R nil nil nil) where
-  pub route-in : (x : List Float) → route s t x < length (t .entries)
-  unfolding route
-  route-in x =
-      let l = leafFor t (λ c. distTo s c x) in
-      let q = leaf-found s t (λ c. distTo s c x) R nil nil nil g in
-      held-in s (nodeAt t) (length (t .nodes)) (t .root) (length (t .entries)) R nil nil nil g l (closest (λ e. distTo s (entryAt t e) x) (nodeAt t l .list))
-      (q .0) (q .1) (first-in (λ e. distTo s (entryAt t e) x) (nodeAt t l .list) (g .filled l (q .0))) .0
+  route-in : (x : List Float) → way t x < length (t .entries)
+  route-in x = names t R g x
 
   -- the entries poured afresh, which of them are used, the tree with them, and where each row went
   abbrev pub es : List Summary
-  es = reaccumulated s t xs
+  es = reaccumulated s way t xs
 
   abbrev pub bs : List Bool
-  bs = map used (reaccumulated s t xs)
+  bs = map used (reaccumulated s way t xs)
 
   abbrev pub w : Tree
-  w = withEntries (reaccumulated s t xs) t
+  w = withEntries (reaccumulated s way t xs) t
 
   abbrev pub b : List ℕ
-  b = map (route s t) xs
+  b = map (way t) xs
 
   len-es : length es ≡ length (t .entries)
-  len-es = reaccumulated-length s t xs
+  len-es = reaccumulated-length s way t xs
 
   pub len-w : length (w .entries) ≡ length (t .entries)
   unfolding withEntries
@@ -170,32 +164,32 @@ module _ {s : Settings} (xs : List (List Float)) (small : length xs ≤ most) (t
   unfolding withEntries
   len-bs = length-map es used
 
-  poured-exact : (c : ℕ) → c < length (t .entries) → Exactly (getD es c blank) (occurs c (map (route s t) xs))
+  poured-exact : (c : ℕ) → c < length (t .entries) → Exactly (getD es c blank) (occurs c (map (way t) xs))
   unfolding reaccumulated
   poured-exact c h =
-      subst (λ z. Exactly (getD (poured s t xs (map (λ _. blank) (t .entries))) c blank) z) (let q : 0 + occurs c (map (route s t) xs) ≡ occurs c
-      (map (route s t) xs) = omega arith in q)
-      (poured-weigh s t (length (t .entries)) route-in xs (map (λ _. blank) (t .entries)) (λ _. 0) (length-map (t .entries) (λ _. blank))
+      subst (λ z. Exactly (getD (poured s (way t) xs (map (λ _. blank) (t .entries))) c blank) z) (let q : 0 + occurs c (map (way t) xs) ≡ occurs c
+      (map (way t) xs) = omega arith in q)
+      (poured-weigh s way t (length (t .entries)) route-in xs (map (λ _. blank) (t .entries)) (λ _. 0) (length-map (t .entries) (λ _. blank))
       (λ c h. subst (λ m. Exactly m 0) (sym (List·getD-map (λ _. blank) (t .entries) c blank)) blank-exact) (λ c. let q = small in omega arith) c h)
 
-  pub poured-owned : Owned w (map (route s t) xs)
+  pub poured-owned : Owned w (map (way t) xs)
   poured-owned c = go (lt? c (length (t .entries)))
     where
-      go : (c < length (t .entries)) ⊎ (length (t .entries) ≤ c) → entryWeight w c ≡ occurs c (map (route s t) xs)
-      go (inl h) = unfold entryWeight entryAt withEntries in exact-count (getD es c blank) (occurs c (map (route s t) xs)) (poured-exact c h)
-      go (inr h) = weight-past w c (let q = len-w in omega arith) ∙ sym (none-past s t (length (t .entries)) route-in xs c h)
+      go : (c < length (t .entries)) ⊎ (length (t .entries) ≤ c) → entryWeight w c ≡ occurs c (map (way t) xs)
+      go (inl h) = unfold entryWeight entryAt withEntries in exact-count (getD es c blank) (occurs c (map (way t) xs)) (poured-exact c h)
+      go (inr h) = weight-past w c (let q = len-w in omega arith) ∙ sym (none-past s way t (length (t .entries)) route-in xs c h)
 
-  flag-is : (c : ℕ) → c < length (t .entries) → getD bs c false ≡ ltb 0 (occurs c (map (route s t) xs))
+  flag-is : (c : ℕ) → c < length (t .entries) → getD bs c false ≡ ltb 0 (occurs c (map (way t) xs))
   flag-is c h = map-flag used es c blank (let q = len-es in omega arith) ∙ tests
     where
-      tests : used (getD es c blank) ≡ ltb 0 (occurs c (map (route s t) xs))
+      tests : used (getD es c blank) ≡ ltb 0 (occurs c (map (way t) xs))
       tests =
-          unfold used in (let e = poured-exact c h in ap (λ z. lt f0 z) (e .0) ∙ ap (λ z. lt z (whole (occurs c (map (route s t) xs)))) (sym whole-0)
-          ∙ lt-whole 0 (occurs c (map (route s t) xs)) (omega arith) (e .1))
+          unfold used in (let e = poured-exact c h in ap (λ z. lt f0 z) (e .0) ∙ ap (λ z. lt z (whole (occurs c (map (way t) xs)))) (sym whole-0)
+          ∙ lt-whole 0 (occurs c (map (way t) xs)) (omega arith) (e .1))
 
   count-w : (c : ℕ) → c < length (t .entries) → IsExact (entryAt w c)
   unfolding entryAt withEntries
-  count-w c h = exact-is (getD es c blank) (occurs c (map (route s t) xs)) (poured-exact c h)
+  count-w c h = exact-is (getD es c blank) (occurs c (map (way t) xs)) (poured-exact c h)
 
   in-t : (c : ℕ) → getD bs c false ≡ true → c < length (t .entries)
   in-t c e = let p = up-in bs c e in let q = len-bs in let r = len-w in omega arith
@@ -203,7 +197,7 @@ module _ {s : Settings} (xs : List (List Float)) (small : length xs ≤ most) (t
   live : (c : ℕ) → getD bs c false ≡ true → IsExact (entryAt w c) × (1 ≤ entryWeight w c)
   live c e =
       let h = in-t c e in
-      let p : 0 < occurs c (map (route s t) xs) = ltb→lt 0 (occurs c (map (route s t) xs)) (subst T (sym (sym (flag-is c h) ∙ e)) tt) in
+      let p : 0 < occurs c (map (way t) xs) = ltb→lt 0 (occurs c (map (way t) xs)) (subst T (sym (sym (flag-is c h) ∙ e)) tt) in
       let q = poured-owned c in
       (count-w c h, omega arith)
 
@@ -214,13 +208,13 @@ module _ {s : Settings} (xs : List (List Float)) (small : length xs ≤ most) (t
           → alive bs (entryWeight w) c ≡ entryWeight w c
       go (inl e) q = alive-up bs (entryWeight w) c e
       go (inr e) (inl h) =
-          let p : occurs c (map (route s t) xs) ≤ 0 = nltb→le 0 (occurs c (map (route s t) xs)) (subst (λ z. T (not z)) (sym (sym (flag-is c h) ∙ e)) tt) in
+          let p : occurs c (map (way t) xs) ≤ 0 = nltb→le 0 (occurs c (map (way t) xs)) (subst (λ z. T (not z)) (sym (sym (flag-is c h) ∙ e)) tt) in
           let q = poured-owned c in
           alive-down bs (entryWeight w) c e ∙ omega arith
       go (inr e) (inr h) = alive-down bs (entryWeight w) c e ∙ sym (weight-past w c (let q = len-w in omega arith))
 
   counted-w : Counted w (length xs)
-  counted-w = sym (owned-sum w (map (route s t) xs) poured-owned) ∙ length-map xs (route s t)
+  counted-w = sym (owned-sum w (map (way t) xs) poured-owned) ∙ length-map xs (way t)
 
   sums : sumTo (alive bs (entryWeight w)) (length (w .entries)) ≡ length xs
   sums = sum-same (entryWeight w) (alive bs (entryWeight w)) (length (w .entries)) (λ c q. alive-same c) ∙ counted-w
@@ -240,7 +234,7 @@ module _ {s : Settings} (xs : List (List Float)) (small : length xs ≤ most) (t
 
   -- some dropped
   abbrev pub u : Tree
-  u = dropped (map used (reaccumulated s t xs)) (withEntries (reaccumulated s t xs) t)
+  u = dropped (map used (reaccumulated s way t xs)) (withEntries (reaccumulated s way t xs) t)
 
   pub len-u : length (u .entries) ≡ countUp bs
   len-u = dropped-entries w bs (length xs) links-w len-bs live sums
@@ -250,7 +244,7 @@ module _ {s : Settings} (xs : List (List Float)) (small : length xs ≤ most) (t
 
   -- the account and the makings, when the unused are dropped
   pub moved-u : Owned u (map (renumber bs) b) × ((ys : List (List Float)) → AllMade s ys (entryAt w) b → AllMade s ys (entryAt u) (map (renumber bs) b))
-  moved-u = drop-carries s w bs len-bs (map (route s t) xs) (λ c. alive-same c ∙ poured-owned c)
+  moved-u = drop-carries s w bs len-bs (map (way t) xs) (λ c. alive-same c ∙ poured-owned c)
 
   pub frame-u : Frame (nodeAt u) (length (u .nodes)) (u .root) (length (u .entries)) R
   frame-u = drop-frame w bs (length xs) links-w len-bs live sums

@@ -13,30 +13,33 @@ use Rattle.head.specs.declared.Settings.{Settings}
 use Rattle.head.specs.Limits.{Sized}
 use Rattle.rules.specs.Lists.{every}
 use Rattle.rules.specs.Tree.{Tree, nodeAt, withEntries}
-use Rattle.rules.specs.Insert.{grown}
+use Rattle.rules.specs.Insert.{grown, rowItem}
 use Rattle.rules.specs.Reinsert.{reinserted}
 use Rattle.rules.specs.Refold.{refolded}
 use Rattle.rules.specs.Rebuild.{dropped}
-use Rattle.rules.specs.Rebuild.{rebuilt, inserted, insertedAll}
+use Rattle.rules.specs.Rebuild.{rebuilt}
 use Rattle.rules.specs.Refit.{reaccumulated, used, anyHollow, refitRounds, refitted}
 use Rattle.counting.specs.Count.{eq-test}
 use Rattle.laws.specs.Invariant.Links.{Links, nil}
 use Rattle.laws.specs.Invariant.Sound.{Caps, caps-of}
 use Rattle.laws.specs.Inserting.Grown.{Whole}
-use Rattle.laws.specs.Inserting.First.{Holding, grown-holds}
+use Rattle.laws.specs.Inserting.First.{Holding}
 use Rattle.laws.specs.Refitting.Round.{reaccumulated-length, frame-u, rows-u, counted-u, pos-u, again-whole}
 use Rattle.laws.specs.Room.Nodes.{Roomy, Within, within-then, within-roomy, links-roomy}
-use Rattle.laws.specs.Room.Kept.{one-more}
 use Rattle.laws.specs.Room.Moments.{Growing, growing-end, growing-roomy, holding-roomy, Reinserting, reinserting-roomy}
 use Rattle.laws.specs.Check.Both.{AtRest}
 use Rattle.laws.specs.Runs.Calls.{row-rests}
 use Rattle.laws.specs.Room.Rebuilds.{entries-within, dropped-within, Refolding, refolding-end, Rebuilding, rebuilding-roomy, counts, refolds-roomy}
+use Rattle.laws.specs.Inserting.Items.{grown-holds, one-more}
+use Rattle.rules.specs.Route.{Route}
+use Rattle.laws.specs.Refitting.Names.{Names}
+use Rattle.rules.specs.Rows.{inserted, insertedAll}
 
 -- ---- a row, and rows one after the other
 
 pub data Inserting (s : Settings) (x : List Float) (t : Tree) : Tree → Type 0 where
   growing : {u : Tree} → Growing s x t u → Inserting s x t u
-  rebuilding : {u : Tree} → s .«max_leaves» < length ((grown s x t) .entries) → Rebuilding s (grown s x t) u → Inserting s x t u
+  rebuilding : {u : Tree} → s .«max_leaves» < length ((grown s (rowItem s x) t) .entries) → Rebuilding s (grown s (rowItem s x) t) u → Inserting s x t u
 
 pub data InsertingAll (s : Settings) : List (List Float) → Tree → Tree → Type 0 where
   start : {xs : List (List Float)} {t : Tree} → InsertingAll s xs t t
@@ -46,9 +49,9 @@ pub data InsertingAll (s : Settings) : List (List Float) → Tree → Tree → T
 -- it ends in the rule's tree
 pub inserting-end : (s : Settings) (x : List Float) (t : Tree) → Inserting s x t (inserted s x t)
 unfolding inserted
-inserting-end s x t = go (ltb (s .«max_leaves») (length ((grown s x t) .entries))) (ltb→lt (s .«max_leaves») (length ((grown s x t) .entries)))
+inserting-end s x t = go (ltb (s .«max_leaves») (length ((grown s (rowItem s x) t) .entries))) (ltb→lt (s .«max_leaves») (length ((grown s (rowItem s x) t) .entries)))
   where
-    go : (b : Bool) → (T b → s .«max_leaves» < length ((grown s x t) .entries)) → Inserting s x t (cond b (rebuilt s (grown s x t)) (grown s x t))
+    go : (b : Bool) → (T b → s .«max_leaves» < length ((grown s (rowItem s x) t) .entries)) → Inserting s x t (cond b (rebuilt s (grown s (rowItem s x) t)) (grown s (rowItem s x) t))
     go true f = rebuilding (f tt) counts
     go false f = growing (growing-end s x t)
 
@@ -62,7 +65,7 @@ pub inserting-roomy : {s : Settings} → Sized s → (x : List Float) (t : Tree)
     → Roomy s u
 inserting-roomy z x t r h (growing g) = growing-roomy z x t r h g
 inserting-roomy {s} z x t {rows = rows} r h (rebuilding more w) =
-    let a = one-more s x t in
+    let a = one-more s (rowItem s x) t in
     let b = r .few in
     rebuilding-roomy (caps-of z) (grown-holds s x t rows (caps-of z) (r .holds) h) (omega arith) (omega arith) w
 
@@ -77,74 +80,74 @@ inserting-all-roomy {s} z (x ∷ xs) t {rows = rows} r h (next w) =
 -- ---- a refit
 
 -- the tree that a round of it leaves: the rows poured afresh, the unused entries dropped
-abbrev pub repoured : Settings → List (List Float) → Tree → Tree
-repoured s xs t = dropped (map used (reaccumulated s t xs)) (withEntries (reaccumulated s t xs) t)
+abbrev pub repoured : Settings → Route → List (List Float) → Tree → Tree
+repoured s way xs t = dropped (map used (reaccumulated s way t xs)) (withEntries (reaccumulated s way t xs) t)
 
 -- k rounds at most: the rows poured one after the other, ys of them so far
-pub data Rounds (s : Settings) (xs : List (List Float)) : ℕ → Tree → Tree → Type 0 where
-  start : {k : ℕ} {t : Tree} → Rounds s xs k t t
-  pouring : {k : ℕ} {t : Tree} (ys zs : List (List Float)) → ys ++ zs ≡ xs → Rounds s xs (suc k) t (withEntries (reaccumulated s t ys) t)
-  drops : {k : ℕ} {t : Tree} → Rounds s xs (suc k) t (repoured s xs t)
-  reinserting : {k : ℕ} {t u : Tree} → Reinserting s (repoured s xs t) u → Rounds s xs (suc k) t u
-  next : {k : ℕ} {t u : Tree} → Rounds s xs k (reinserted s (repoured s xs t)) u → Rounds s xs (suc k) t u
+pub data Rounds (s : Settings) (way : Route) (xs : List (List Float)) : ℕ → Tree → Tree → Type 0 where
+  start : {k : ℕ} {t : Tree} → Rounds s way xs k t t
+  pouring : {k : ℕ} {t : Tree} (ys zs : List (List Float)) → ys ++ zs ≡ xs → Rounds s way xs (suc k) t (withEntries (reaccumulated s way t ys) t)
+  drops : {k : ℕ} {t : Tree} → Rounds s way xs (suc k) t (repoured s way xs t)
+  reinserting : {k : ℕ} {t u : Tree} → Reinserting s (repoured s way xs t) u → Rounds s way xs (suc k) t u
+  next : {k : ℕ} {t u : Tree} → Rounds s way xs k (reinserted s (repoured s way xs t)) u → Rounds s way xs (suc k) t u
 
-pub data Refitting (s : Settings) : List (List Float) → Tree → Tree → Type 0 where
-  start : {xs : List (List Float)} {t : Tree} → Refitting s xs t t
-  rounds : {x : List Float} {xs : List (List Float)} {t u : Tree} → 0 < length (t .entries) → Rounds s (x ∷ xs) (length (t .entries)) t u
-      → Refitting s (x ∷ xs) t u
+pub data Refitting (s : Settings) (way : Route) : List (List Float) → Tree → Tree → Type 0 where
+  start : {xs : List (List Float)} {t : Tree} → Refitting s way xs t t
+  rounds : {x : List Float} {xs : List (List Float)} {t u : Tree} → 0 < length (t .entries) → Rounds s way (x ∷ xs) (length (t .entries)) t u
+      → Refitting s way (x ∷ xs) t u
   refolding : {x : List Float} {xs : List (List Float)} {t u : Tree} → 0 < length (t .entries)
-      → Refolding s (refitRounds s (x ∷ xs) (length (t .entries)) 0 t) u → Refitting s (x ∷ xs) t u
+      → Refolding s (refitRounds s way (x ∷ xs) (length (t .entries)) 0 t) u → Refitting s way (x ∷ xs) t u
 
 -- they end in the rule's tree
-pub rounds-end : (s : Settings) (xs : List (List Float)) (k r : ℕ) (t : Tree) → Rounds s xs k t (refitRounds s xs k r t)
+pub rounds-end : (s : Settings) (way : Route) (xs : List (List Float)) (k r : ℕ) (t : Tree) → Rounds s way xs k t (refitRounds s way xs k r t)
 unfolding refitRounds
-rounds-end s xs zero r t = start
-rounds-end s xs (suc k) r t =
-    go (every (λ b. b) (map used (reaccumulated s t xs))) (not (anyHollow (repoured s xs t .nodes)) && leb 1 r)
-    (rounds-end s xs k (suc r) (reinserted s (repoured s xs t)))
+rounds-end s way xs zero r t = start
+rounds-end s way xs (suc k) r t =
+    go (every (λ b. b) (map used (reaccumulated s way t xs))) (not (anyHollow (repoured s way xs t .nodes)) && leb 1 r)
+    (rounds-end s way xs k (suc r) (reinserted s (repoured s way xs t)))
   where
-    go : (a b : Bool) {v : Tree} → Rounds s xs k (reinserted s (repoured s xs t)) v
-        → Rounds s xs (suc k) t (elim a as (λ _. Tree) [
-          | true ↦ withEntries (reaccumulated s t xs) t
+    go : (a b : Bool) {v : Tree} → Rounds s way xs k (reinserted s (repoured s way xs t)) v
+        → Rounds s way xs (suc k) t (elim a as (λ _. Tree) [
+          | true ↦ withEntries (reaccumulated s way t xs) t
           | false ↦ elim b as (λ _. Tree)
-              [ true ↦ repoured s xs t | false ↦ v ]
+              [ true ↦ repoured s way xs t | false ↦ v ]
         ])
     go true b w = pouring xs [] (append-nil xs)
     go false true w = drops
     go false false w = next w
 
-pub refitting-end : (s : Settings) (xs : List (List Float)) (t : Tree) → Refitting s xs t (refitted s xs t)
+pub refitting-end : (s : Settings) (way : Route) (xs : List (List Float)) (t : Tree) → Refitting s way xs t (refitted s way xs t)
 unfolding refitted
-refitting-end s [] t = start
-refitting-end s (x ∷ xs) t = go (eqb (length (t .entries)) 0) refl
+refitting-end s way [] t = start
+refitting-end s way (x ∷ xs) t = go (eqb (length (t .entries)) 0) refl
   where
     v : Tree
-    v = refitRounds s (x ∷ xs) (length (t .entries)) 0 t
+    v = refitRounds s way (x ∷ xs) (length (t .entries)) 0 t
 
-    go : (b : Bool) → eqb (length (t .entries)) 0 ≡ b → Refitting s (x ∷ xs) t (cond b t (refolded s v))
+    go : (b : Bool) → eqb (length (t .entries)) 0 ≡ b → Refitting s way (x ∷ xs) t (cond b t (refolded s v))
     go true e = start
     go false e = refolding {t = t} (let z = eq-test (length (t .entries)) 0 false e .1 refl in omega arith) (refolding-end s v)
 
-poured-within : (s : Settings) (ys : List (List Float)) (t : Tree) → Within t (withEntries (reaccumulated s t ys) t)
-poured-within s ys t = entries-within t (reaccumulated s t ys) (let q = reaccumulated-length s t ys in omega arith)
+poured-within : (s : Settings) (way : Route) (ys : List (List Float)) (t : Tree) → Within t (withEntries (reaccumulated s way t ys) t)
+poured-within s way ys t = entries-within t (reaccumulated s way t ys) (let q = reaccumulated-length s way t ys in omega arith)
 
-repoured-within : (s : Settings) (xs : List (List Float)) (t : Tree) → Within t (repoured s xs t)
-repoured-within s xs t = within-then (poured-within s xs t) (dropped-within (map used (reaccumulated s t xs)) (withEntries (reaccumulated s t xs) t))
+repoured-within : (s : Settings) (way : Route) (xs : List (List Float)) (t : Tree) → Within t (repoured s way xs t)
+repoured-within s way xs t = within-then (poured-within s way xs t) (dropped-within (map used (reaccumulated s way t xs)) (withEntries (reaccumulated s way t xs) t))
 
-module _ {s : Settings} (xs : List (List Float)) (c : Caps s) (pos : 0 < length xs) (small : length xs ≤ most) where
+module _ {s : Settings} {way : Route} (names : Names s way) (xs : List (List Float)) (c : Caps s) (pos : 0 < length xs) (small : length xs ≤ most) where
   rounds-roomy : {k : ℕ} (t : Tree) {u : Tree} {R : ℕ → ℕ} → Links s (nodeAt t) (length (t .nodes)) (t .root) (length (t .entries)) R nil nil nil
-      → length (t .entries) ≤ s .«max_leaves» + 1 → Rounds s xs k t u → Roomy s u
+      → length (t .entries) ≤ s .«max_leaves» + 1 → Rounds s way xs k t u → Roomy s u
   rounds-roomy t g few start = links-roomy t g refl refl (λ i. omega arith) few
-  rounds-roomy t g few (pouring ys zs e) = within-roomy (poured-within s ys t) (links-roomy t g refl refl (λ i. omega arith) few)
-  rounds-roomy t g few drops = within-roomy (repoured-within s xs t) (links-roomy t g refl refl (λ i. omega arith) few)
+  rounds-roomy t g few (pouring ys zs e) = within-roomy (poured-within s way ys t) (links-roomy t g refl refl (λ i. omega arith) few)
+  rounds-roomy t g few drops = within-roomy (repoured-within s way xs t) (links-roomy t g refl refl (λ i. omega arith) few)
   rounds-roomy t g few (reinserting w) =
-      let a = repoured-within s xs t .entries in
-      reinserting-roomy (repoured s xs t) (length xs) c (frame-u xs small t g) (rows-u xs small t g) (counted-u xs small t g) small (pos-u xs small t g pos)
+      let a = repoured-within s way xs t .entries in
+      reinserting-roomy (repoured s way xs t) (length xs) c (frame-u names xs small t g) (rows-u names xs small t g) (counted-u names xs small t g) small (pos-u names xs small t g pos)
       (omega arith) w
   rounds-roomy t g few (next w) =
-      let (x, n) = again-whole xs small t g c pos in
-      let a = repoured-within s xs t .entries in
-      rounds-roomy (reinserted s (repoured s xs t)) (x .1 .links) (omega arith) w
+      let (x, n) = again-whole names xs small t g c pos in
+      let a = repoured-within s way xs t .entries in
+      rounds-roomy (reinserted s (repoured s way xs t)) (x .1 .links) (omega arith) w
 
 -- a tree with entries is no empty one
 some-whole : {s : Settings} {t : Tree} {rows : ℕ} → Holding s t rows → 0 < length (t .entries) → Whole s t rows
@@ -152,12 +155,12 @@ some-whole (inl b) pos = let n = ap (λ u. length (u .entries)) (b .0 .is) in ab
 some-whole (inr w) pos = w
 
 -- every tree that a refit goes through
-pub refitting-roomy : {s : Settings} → Sized s → (xs : List (List Float)) (t : Tree) {u : Tree} {rows : ℕ} → AtRest s t rows
+pub refitting-roomy : {s : Settings} {way : Route} → Names s way → Sized s → (xs : List (List Float)) (t : Tree) {u : Tree} {rows : ℕ} → AtRest s t rows
     → (0 < length (t .entries) → length xs ≤ most)
-    → Refitting s xs t u → Roomy s u
-refitting-roomy {s} z xs t {rows = rows} r h start = holding-roomy s t rows (r .holds) (let q = r .few in omega arith)
-refitting-roomy z (x ∷ xs) t r h (rounds pos w) =
-    rounds-roomy (x ∷ xs) (caps-of z) (omega arith) (h pos) t (some-whole (r .holds) pos .1 .links) (let q = r .few in omega arith) w
-refitting-roomy {s} z (x ∷ xs) t r h (refolding pos w) =
-    refolds-roomy (rounds-roomy (x ∷ xs) (caps-of z) (omega arith) (h pos) t (some-whole (r .holds) pos .1 .links) (let q = r .few in omega arith)
-    (rounds-end s (x ∷ xs) (length (t .entries)) 0 t)) w
+    → Refitting s way xs t u → Roomy s u
+refitting-roomy {s} names z xs t {rows = rows} r h start = holding-roomy s t rows (r .holds) (let q = r .few in omega arith)
+refitting-roomy names z (x ∷ xs) t r h (rounds pos w) =
+    rounds-roomy names (x ∷ xs) (caps-of z) (omega arith) (h pos) t (some-whole (r .holds) pos .1 .links) (let q = r .few in omega arith) w
+refitting-roomy {s} {way} names z (x ∷ xs) t r h (refolding pos w) =
+    refolds-roomy (rounds-roomy names (x ∷ xs) (caps-of z) (omega arith) (h pos) t (some-whole (r .holds) pos .1 .links) (let q = r .few in omega arith)
+    (rounds-end s way (x ∷ xs) (length (t .entries)) 0 t)) w

@@ -1,6 +1,6 @@
 -- A row into a tree that holds: the invariant holds after it, with at most max_leaves entries and room for the nodes.
 use Prim.Native.Nat.{ℕ, suc, _+_, _*_, _/_, _≤_, _<_}
-use mathlib.Core.Path.{_≡_, refl, ap}
+use mathlib.Core.Path.{_≡_, ap}
 use mathlib.Core.Logic.{inr, inl}
 use mathlib.Core.Bool.{Bool, true, false, not, cond}
 use mathlib.Core.List.{List}
@@ -10,23 +10,18 @@ use lib.Dec.{T, ltb, ltb→lt, nltb→le}
 use lib.ListN.{length}
 use lib.Ieee.{Float}
 use Rattle.binary64.specs.Whole.{most}
-use Rattle.feature.specs.Summaries.{blank}
 use Rattle.head.specs.declared.Settings.{Settings}
 use Rattle.head.specs.Sizes.{nodeCap}
-use Rattle.rules.specs.declared.Nearest.{Nearest}
-use Rattle.rules.specs.declared.Nearest.the-variants.{Entry, Nothing}
-use Rattle.rules.specs.Tree.{push, distTo, Tree, withNodes, withEntries}
-use Rattle.rules.specs.Descent.{leafFor, alongPath}
-use Rattle.rules.specs.Split.{splitUp, settled}
-use Rattle.rules.specs.Insert.{begun, absorbed, absorbedOrBegun, placed, grownAt, grown, absorbs}
-use Rattle.rules.specs.Rebuild.{rebuilt, inserted}
-use Rattle.counting.specs.Lists.{length-change, snoc-length}
+use Rattle.rules.specs.Tree.{Tree}
+use Rattle.rules.specs.Insert.{grown, rowItem}
+use Rattle.rules.specs.Rebuild.{rebuilt}
 use Rattle.laws.specs.Invariant.Sound.{Caps}
 use Rattle.laws.specs.Room.Nodes.{room-links}
 use Rattle.laws.specs.Inserting.Grown.{Whole}
-use Rattle.laws.specs.Inserting.First.{Holding, grown-holds}
-use Rattle.laws.specs.Running.{splitUp-entries}
+use Rattle.laws.specs.Inserting.First.{Holding}
 use Rattle.laws.specs.Rebuilding.Rebuilt.{rebuilt-whole}
+use Rattle.laws.specs.Inserting.Items.{one-more, grown-holds}
+use Rattle.rules.specs.Rows.{inserted}
 
 -- ---- N = (M+1)(M+2)/2 nodes suffice for M+1 entries
 
@@ -49,60 +44,32 @@ holding-room s t total (inr w) h = room-enough s t total w h
 
 -- ---- one row
 
-placed-more : (s : Settings) (x : List Float) (l : ℕ) (r : Nearest) (u : Tree) → length ((absorbedOrBegun s x l r u) .entries) ≤ suc (length (u .entries))
-unfolding absorbedOrBegun absorbed begun withEntries withNodes
-placed-more s x l Nothing u = let a = snoc-length (u .entries) (push s x blank) in omega arith
-placed-more s x l (Entry e) u = go (absorbs s x e u)
-  where
-    go : (b : Bool) → length ((cond b (absorbed s x e u) (begun l (push s x blank) u)) .entries) ≤ suc (length (u .entries))
-    go true = let a = length-change (push s x) e (u .entries) in omega arith
-    go false = let a = snoc-length (u .entries) (push s x blank) in omega arith
-
--- a row adds one entry at most
-pub one-more : (s : Settings) (x : List Float) (t : Tree) → length ((grown s x t) .entries) ≤ suc (length (t .entries))
-unfolding grown grownAt settled placed
-one-more s x t = go _
-  where
-    l : ℕ
-    l = leafFor t (λ c. distTo s c x)
-
-    u : Tree
-    u = alongPath (push s x) l t
-
-    go : (r : Nearest) → let v = absorbedOrBegun s x l r u in length ((splitUp s (length (v .nodes)) l v) .entries) ≤ suc (length (t .entries))
-    go r =
-        let v = absorbedOrBegun s x l r u in
-        let a : length ((splitUp s (length (v .nodes)) l v) .entries) ≡ length (v .entries) = ap length (splitUp-entries s (length (v .nodes)) l v) in
-        let b : length (v .entries) ≤ suc (length (u .entries)) = placed-more s x l r u in
-        let c : length (u .entries) ≡ length (t .entries) = unfold alongPath withNodes in refl in
-        omega arith
-
 -- total rows held, at most max_leaves entries
 abbrev pub Kept : Settings → Tree → ℕ → Type 0
 Kept s t total = Holding s t total × (length (t .entries) ≤ s .«max_leaves»)
 
 -- with M entries at most before, so after, and room for M + 1 between
 pub inserted-kept : (s : Settings) (x : List Float) (t : Tree) (total : ℕ) → Caps s → 1 ≤ s .«max_leaves» → Kept s t total → total < most
-    → Whole s (inserted s x t) (suc total) × (length ((inserted s x t) .entries) ≤ s .«max_leaves») × (length ((grown s x t) .nodes) ≤ nodeCap s)
+    → Whole s (inserted s x t) (suc total) × (length ((inserted s x t) .entries) ≤ s .«max_leaves») × (length ((grown s (rowItem s x) t) .nodes) ≤ nodeCap s)
     × (length ((inserted s x t) .nodes) ≤ nodeCap s)
 unfolding inserted
 inserted-kept s x t total c one k h =
-    let w : Whole s (grown s x t) (suc total) = grown-holds s x t total c (k .0) h in
-    let m = one-more s x t in
+    let w : Whole s (grown s (rowItem s x) t) (suc total) = grown-holds s x t total c (k .0) h in
+    let m = one-more s (rowItem s x) t in
     let e = k .1 in
-    let r = room-enough s (grown s x t) (suc total) w (omega arith) in
-    let q = go w (ltb (s .«max_leaves») (length ((grown s x t) .entries))) (ltb→lt (s .«max_leaves») (length ((grown s x t) .entries)))
-    (nltb→le (s .«max_leaves») (length ((grown s x t) .entries))) (omega arith) in (
+    let r = room-enough s (grown s (rowItem s x) t) (suc total) w (omega arith) in
+    let q = go w (ltb (s .«max_leaves») (length ((grown s (rowItem s x) t) .entries))) (ltb→lt (s .«max_leaves») (length ((grown s (rowItem s x) t) .entries)))
+    (nltb→le (s .«max_leaves») (length ((grown s (rowItem s x) t) .entries))) (omega arith) in (
       q .0,
       q .1,
       r,
-      room-enough s (cond (ltb (s .«max_leaves») (length ((grown s x t) .entries))) (rebuilt s (grown s x t)) (grown s x t)) (suc total) (q .0)
+      room-enough s (cond (ltb (s .«max_leaves») (length ((grown s (rowItem s x) t) .entries))) (rebuilt s (grown s (rowItem s x) t)) (grown s (rowItem s x) t)) (suc total) (q .0)
           (let z = q .1 in omega arith),
     )
   where
-    go : Whole s (grown s x t) (suc total) → (b : Bool) → (T b → s .«max_leaves» < length ((grown s x t) .entries))
-        → (T (not b) → length ((grown s x t) .entries) ≤ s .«max_leaves») → length ((grown s x t) .entries) ≤ suc (s .«max_leaves»)
-        → Whole s (cond b (rebuilt s (grown s x t)) (grown s x t)) (suc total)
-        × (length ((cond b (rebuilt s (grown s x t)) (grown s x t)) .entries) ≤ s .«max_leaves»)
+    go : Whole s (grown s (rowItem s x) t) (suc total) → (b : Bool) → (T b → s .«max_leaves» < length ((grown s (rowItem s x) t) .entries))
+        → (T (not b) → length ((grown s (rowItem s x) t) .entries) ≤ s .«max_leaves») → length ((grown s (rowItem s x) t) .entries) ≤ suc (s .«max_leaves»)
+        → Whole s (cond b (rebuilt s (grown s (rowItem s x) t)) (grown s (rowItem s x) t)) (suc total)
+        × (length ((cond b (rebuilt s (grown s (rowItem s x) t)) (grown s (rowItem s x) t)) .entries) ≤ s .«max_leaves»)
     go w false f g z = (w, g tt)
-    go w true f g z = let r = rebuilt-whole s (grown s x t) (suc total) c one w (f tt) in (r .0, (let y = r .1 in omega arith))
+    go w true f g z = let r = rebuilt-whole s (grown s (rowItem s x) t) (suc total) c one w (f tt) in (r .0, (let y = r .1 in omega arith))

@@ -1,48 +1,47 @@
 -- Room at every moment of a row's growing, and of a reinsertion, which rebuild and refit share.
 use Prim.Native.Nat.{ℕ, suc, _+_, _≤_, _<_}
-use mathlib.Core.Path.{_≡_, refl, ap, _∙_}
-use mathlib.Core.Logic.{inl, inr}
+use mathlib.Core.Path.{_≡_, ap, _∙_}
+use mathlib.Core.Logic.{inr}
 use mathlib.Core.List.{List, [], _∷_, map, reverse}
 use native.Mathlib.Omega.{arith}
 use lib.ListN.{length}
 use lib.Ieee.{Float}
 use Rattle.binary64.specs.Whole.{most}
-use Rattle.feature.specs.Summaries.{blank}
 use Rattle.feature.specs.declared.Summary.{Summary}
 use Rattle.head.specs.declared.Settings.{Settings}
 use Rattle.head.specs.Limits.{Sized}
 use Rattle.head.specs.Sizes.{entryCap}
-use Rattle.rules.specs.Tree.{Tree, nodeAt, entryAt, blankNode, push, merge, distTo, distBetween, withNodes, withEntries}
+use Rattle.rules.specs.Tree.{Tree, nodeAt, entryAt, blankNode, distTo, distBetween, withNodes, rowsIn}
 use Rattle.rules.specs.Descent.{leafFor, alongPath}
 use Rattle.rules.specs.Split.{settled}
-use Rattle.rules.specs.Insert.{begun, grownAt, grown}
+use Rattle.rules.specs.Insert.{begun, grownAt, grown, rowItem, Item, summaryItem, placed}
 use Rattle.rules.specs.Reinsert.{collected, cleared, replaced, replacedAll, reinserted}
-use Rattle.rules.specs.Check.{rowsIn, totalOf}
-use Rattle.laws.specs.Running.{splitUp-entries}
+use Rattle.rules.specs.Check.{totalOf}
 use Rattle.counting.specs.Lists.{snoc-length}
-use Rattle.laws.specs.Invariant.Weights.{IsExact, blank-exact}
+use Rattle.laws.specs.Invariant.Weights.{IsExact}
 use Rattle.laws.specs.Invariant.Beneath.{Frame}
 use Rattle.laws.specs.Invariant.Sound.{Caps, caps-of, entryWeight}
 use Rattle.laws.specs.Inserting.Grown.{Counted, path-length, path-leaf}
-use Rattle.laws.specs.Inserting.First.{Holding, Ready, rowPlaced, row-placed, entryPlaced, entry-placed, place-ready, ready-holds}
-use Rattle.laws.specs.Rebuilding.Reinsert.{Rows, place-entries, list-rows, list-total, list-length}
+use Rattle.laws.specs.Inserting.First.{Holding, leaf-of}
+use Rattle.laws.specs.Rebuilding.Reinsert.{Rows, place-entries, list-rows, list-total, list-length, cleared-holds}
 use Rattle.laws.specs.Room.Nodes.{Roomy, Within, within-roomy, Splitting, splitting-end, splitting-roomy}
-use Rattle.laws.specs.Room.Kept.{one-more, holding-room}
+use Rattle.laws.specs.Room.Kept.{holding-room}
 use Rattle.laws.specs.ForCode.{sure-of, path-kids}
 use Rattle.laws.specs.Check.Both.{AtRest}
+use Rattle.laws.specs.Inserting.Items.{Weighty, row-weighty, summary-weighty, itemPlaced, item-placed, in-leaf-more, found, replaced-holds}
+use mathlib.Core.Bool.{Bool, true, false}
 
--- ---- a row's growing
+-- ---- an item in at leaf l, searched for or begun
 
 -- the trees that it goes through
-pub data Growing (s : Settings) (x : List Float) (t : Tree) : Tree → Type 0 where
-  start : Growing s x t t
-  pushed : Growing s x t (alongPath (push s x) (leafFor t (λ c. distTo s c x)) t)
-  splits : {u : Tree} → Splitting s (leafFor t (λ c. distTo s c x)) (rowPlaced s x t) u → Growing s x t u
+pub data Entering (s : Settings) (i : Item) (b : Bool) (l : ℕ) (t : Tree) : Tree → Type 0 where
+  start : Entering s i b l t t
+  pushed : Entering s i b l t (alongPath (i .taken) l t)
+  splits : {u : Tree} → Splitting s l (itemPlaced i b l t) u → Entering s i b l t u
 
--- the last of them is the rule's
-pub growing-end : (s : Settings) (x : List Float) (t : Tree) → Growing s x t (grown s x t)
-unfolding grown grownAt settled
-growing-end s x t = splits (splitting-end s (length ((rowPlaced s x t) .nodes)) (leafFor t (λ c. distTo s c x)) (rowPlaced s x t))
+entering-end : (s : Settings) (i : Item) (b : Bool) (l : ℕ) (t : Tree) → Entering s i b l t (settled s l (itemPlaced i b l t))
+unfolding settled
+entering-end s i b l t = splits (splitting-end s (length ((itemPlaced i b l t) .nodes)) l (itemPlaced i b l t))
 
 pub holding-roomy : (s : Settings) (t : Tree) (rows : ℕ) → Holding s t rows → length (t .entries) ≤ s .«max_leaves» + 1 → Roomy s t
 unfolding entryCap
@@ -58,44 +57,50 @@ path-within F l t = record {
   lists = (λ i. let c : length (nodeAt (alongPath F l t) i .list) ≡ length (nodeAt t i .list) = ap (λ k. length k) (path-kids F l t i) in omega arith);
 }
 
-placed-entries : (s : Settings) (x : List Float) (t : Tree) → (grown s x t) .entries ≡ (rowPlaced s x t) .entries
-unfolding grown grownAt settled
-placed-entries s x t = splitUp-entries s (length ((rowPlaced s x t) .nodes)) (leafFor t (λ c. distTo s c x)) (rowPlaced s x t)
+-- every one of them
+pub entering-roomy : {s : Settings} → Caps s → (i : Item) → Weighty i → (b : Bool) (l : ℕ) (t : Tree) {u : Tree} (total : ℕ) → Holding s t total
+    → l < length (t .nodes) → nodeAt t l .leaf ≡ true → total + i .rows ≤ most → length (t .entries) ≤ s .«max_leaves» → Entering s i b l t u → Roomy s u
+entering-roomy {s} c i ok b l t total k here leaf h few start = holding-roomy s t total k (omega arith)
+entering-roomy {s} c i ok b l t total k here leaf h few pushed = within-roomy (path-within (i .taken) l t) (holding-roomy s t total k (omega arith))
+entering-roomy {s} c i ok b l t total k here leaf h few (splits w) =
+    let p = item-placed i ok b l t total k here leaf h in
+    let m = in-leaf-more i b l t in
+    splitting-roomy c (p .1 .looking) (p .1 .here) (omega arith) w
 
--- every tree of a row's growing
+-- ---- a row's growing
+
+abbrev pub Growing : Settings → List Float → Tree → Tree → Type 0
+Growing s x t u = Entering s (rowItem s x) true (leafFor t (λ c. distTo s c x)) t u
+
+-- the last of its trees is the rule's
+pub growing-end : (s : Settings) (x : List Float) (t : Tree) → Growing s x t (grown s (rowItem s x) t)
+unfolding grown grownAt placed found
+growing-end s x t = entering-end s (rowItem s x) true (leafFor t (λ c. distTo s c x)) t
+
 pub growing-roomy : {s : Settings} → Sized s → (x : List Float) (t : Tree) {u : Tree} {rows : ℕ} → AtRest s t rows → rows < most → Growing s x t u → Roomy s u
-growing-roomy {s} z x t {u} {rows} r h start = holding-roomy s t rows (r .holds) (let q = r .few in omega arith)
-growing-roomy {s} z x t {u} {rows} r h pushed =
-    within-roomy (path-within (push s x) (leafFor t (λ c. distTo s c x)) t) (holding-roomy s t rows (r .holds) (let q = r .few in omega arith))
-growing-roomy {s} z x t {u} {rows} r h (splits w) =
-    let p = row-placed s x t rows (caps-of z) (r .holds) h in
-    let n : length ((grown s x t) .entries) ≡ length ((rowPlaced s x t) .entries) = ap (λ l. length l) (placed-entries s x t) in
-    let m = one-more s x t in
-    let q = r .few in
-    splitting-roomy (caps-of z) (p .1 .looking) (p .1 .here) (omega arith) w
+growing-roomy {s} z x t {u} {rows} r h w =
+    let (here, leaf) = leaf-of s t rows (λ c. distTo s c x) (r .holds) in
+    entering-roomy (caps-of z) (rowItem s x) (row-weighty s x) true (leafFor t (λ c. distTo s c x)) t rows (r .holds) here leaf (omega arith) (r .few) w
 
 -- ---- a reinsertion: the entries es placed one after the other from t on
 
 pub data Replacing (s : Settings) : List Summary → Tree → Tree → Type 0 where
   start : {es : List Summary} {t : Tree} → Replacing s es t t
-  pushed : {e : Summary} {es : List Summary} {t : Tree} → Replacing s (e ∷ es) t (alongPath (λ c. merge s c e) (leafFor t (λ c. distBetween s c e)) t)
-  splits : {e : Summary} {es : List Summary} {t u : Tree} → Splitting s (leafFor t (λ c. distBetween s c e)) (entryPlaced s e t) u → Replacing s (e ∷ es) t u
+  entry : {e : Summary} {es : List Summary} {t u : Tree} → Entering s (summaryItem s e) false (leafFor t (λ c. distBetween s c e)) t u → Replacing s (e ∷ es) t u
   next : {e : Summary} {es : List Summary} {t u : Tree} → Replacing s es (replaced s e t) u → Replacing s (e ∷ es) t u
 
 -- every tree of a list of entries placed again
-pub replacing-roomy : {s : Settings} → Caps s → (es : List Summary) (t : Tree) {u : Tree} (total : ℕ) → Ready s t total → Rows es → total + totalOf es ≤ most
+pub replacing-roomy : {s : Settings} → Caps s → (es : List Summary) (t : Tree) {u : Tree} (total : ℕ) → Holding s t total → Rows es → total + totalOf es ≤ most
     → length (t .entries) + length es ≤ s .«max_leaves» + 1 → Replacing s es t u → Roomy s u
 unfolding totalOf
-replacing-roomy {s} c es t total k r b h start = holding-roomy s t total (ready-holds s t total k) (omega arith)
-replacing-roomy {s} c (e ∷ es) t total k r b h pushed =
-    within-roomy (path-within (λ d. merge s d e) (leafFor t (λ d. distBetween s d e)) t) (holding-roomy s t total (ready-holds s t total k) (omega arith))
-replacing-roomy {s} c (e ∷ es) t total k r b h (splits w) =
-    let p = entry-placed s e t (rowsIn e) total k (r .0) (r .1) (omega arith) in
-    let n : length ((entryPlaced s e t) .entries) ≡ suc (length (t .entries)) = unfold begun withNodes withEntries alongPath in snoc-length (t .entries) e in
-    splitting-roomy c (p .1 .looking) (p .1 .here) (omega arith) w
+replacing-roomy {s} c es t total k r b h start = holding-roomy s t total k (omega arith)
+replacing-roomy {s} c (e ∷ es) t total k r b h (entry w) =
+    let (here, leaf) = leaf-of s t total (λ d. distBetween s d e) k in
+    entering-roomy c (summaryItem s e) (summary-weighty s e (r .0) (r .1)) false (leafFor t (λ d. distBetween s d e)) t total k here leaf (omega arith)
+    (omega arith) w
 replacing-roomy {s} c (e ∷ es) t total k r b h (next w) =
     let n : length ((replaced s e t) .entries) ≡ suc (length (t .entries)) = ap (λ l. length l) (place-entries s e t) ∙ snoc-length (t .entries) e in
-    replacing-roomy c es (replaced s e t) (total + rowsIn e) (inr (place-ready s e t (rowsIn e) total c k (r .0) (r .1) (omega arith))) (r .2) (omega arith)
+    replacing-roomy c es (replaced s e t) (total + rowsIn e) (inr (replaced-holds s e t total c k (r .0) (r .1) (omega arith))) (r .2) (omega arith)
     (omega arith) w
 
 -- ---- the whole of it, of the tree t
@@ -122,4 +127,4 @@ reinserting-roomy {s} t {u = u} total c g rows sums small pos few =
     let n = list-length t total c g rows sums small pos in
     let m = list-total t total c g rows sums small pos in
     replacing-roomy c (reverse (map (entryAt t) (collected t (length (t .nodes)) (t .root ∷ [])))) (cleared t) 0
-    (inl (blank, blank-exact, refl, refl)) (list-rows t total c g rows sums small pos) (omega arith) (omega arith)
+    (cleared-holds s t) (list-rows t total c g rows sums small pos) (omega arith) (omega arith)

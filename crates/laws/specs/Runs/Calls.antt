@@ -13,8 +13,7 @@ use Rattle.head.specs.declared.Settings.{Settings}
 use Rattle.head.specs.Limits.{Sized}
 use Rattle.rules.specs.Lists.{snoc}
 use Rattle.rules.specs.Tree.{Tree, entryAt, fresh}
-use Rattle.rules.specs.Insert.{grown}
-use Rattle.rules.specs.Rebuild.{inserted, insertedAll}
+use Rattle.rules.specs.Insert.{grown, rowItem}
 use Rattle.rules.specs.Refit.{refitted}
 use Rattle.laws.specs.Invariant.Sound.{caps-of}
 use Rattle.laws.specs.Inserting.First.{Holding, fresh-holds}
@@ -30,6 +29,9 @@ use Rattle.laws.specs.Refitting.Refitted.{refit-whole}
 use Rattle.laws.specs.Runs.Merged.{inserted-merged}
 use Rattle.laws.specs.Running.{Below}
 use Rattle.head.specs.Counting.{newRunning}
+use Rattle.rules.specs.Route.{Route}
+use Rattle.laws.specs.Refitting.Names.{Names}
+use Rattle.rules.specs.Rows.{inserted, insertedAll}
 
 -- ---- a tree at rest and its account
 
@@ -40,11 +42,11 @@ pub record Owning (s : Settings) (t : Tree) (rows : ℕ) (a : List ℕ) : Type 0
 -- one place more for a row
 owners-length : (s : Settings) (x : List Float) (t : Tree) (a : List ℕ) → length (ownersIn s x t a) ≡ suc (length a)
 unfolding ownersIn
-owners-length s x t a = go (ltb (s .«max_leaves») (length ((grown s x t) .entries)))
+owners-length s x t a = go (ltb (s .«max_leaves») (length ((grown s (rowItem s x) t) .entries)))
   where
-    go : (b : Bool) → length (cond b (map (rebuiltTo s (grown s x t)) (snoc a (taker s x t))) (snoc a (taker s x t))) ≡ suc (length a)
-    go true = length-map (snoc a (taker s x t)) (rebuiltTo s (grown s x t)) ∙ snoc-length a (taker s x t)
-    go false = snoc-length a (taker s x t)
+    go : (b : Bool) → length (cond b (map (rebuiltTo s (grown s (rowItem s x) t)) (snoc a (taker (rowItem s x) t))) (snoc a (taker (rowItem s x) t))) ≡ suc (length a)
+    go true = length-map (snoc a (taker (rowItem s x) t)) (rebuiltTo s (grown s (rowItem s x) t)) ∙ snoc-length a (taker (rowItem s x) t)
+    go false = snoc-length a (taker (rowItem s x) t)
 
 module _ {s : Settings} (z : Sized s) where
   -- a row into a tree at rest leaves one, with one row more
@@ -85,40 +87,40 @@ module _ {s : Settings} (z : Sized s) where
       (inserted-made s x t (length ys) ys a (caps-of z) (z .most-some) (r .holds, r .few) (omega arith) len (o .owned) m))
 
   -- an effective refit: the account, and what the entries are made of
-  effective-both : (xs : List (List Float)) (t : Tree) (rows : ℕ) (a : List ℕ) → AtRest s t rows → effective xs t ≡ true → length xs ≤ most
-      → Owning s (refitted s xs t) (length xs) (ownersRefit s xs t a) × AllMade s xs (entryAt (refitted s xs t)) (ownersRefit s xs t a)
+  effective-both : (way : Route) → Names s way → (xs : List (List Float)) (t : Tree) (rows : ℕ) (a : List ℕ) → AtRest s t rows → effective xs t ≡ true → length xs ≤ most
+      → Owning s (refitted s way xs t) (length xs) (ownersRefit s way xs t a) × AllMade s xs (entryAt (refitted s way xs t)) (ownersRefit s way xs t a)
   unfolding effective
-  effective-both [] t rows a r e h = let z : _≡_ {A = ℕ} 0 1 = cc in absurd (omega arith)
-  effective-both (x ∷ xs) t rows a r e h = go (r .holds)
+  effective-both way names [] t rows a r e h = let z : _≡_ {A = ℕ} 0 1 = cc in absurd (omega arith)
+  effective-both way names (x ∷ xs) t rows a r e h = go (r .holds)
     where
       some-entry : length (t .entries) ≢ 0
       some-entry q = true≢false (sym e ∙ ap (λ n. not (eqb n 0)) q)
 
-      go : Holding s t rows → Owning s (refitted s (x ∷ xs) t) (suc (length xs)) (ownersRefit s (x ∷ xs) t a)
-          × AllMade s (x ∷ xs) (entryAt (refitted s (x ∷ xs) t)) (ownersRefit s (x ∷ xs) t a)
+      go : Holding s t rows → Owning s (refitted s way (x ∷ xs) t) (suc (length xs)) (ownersRefit s way (x ∷ xs) t a)
+          × AllMade s (x ∷ xs) (entryAt (refitted s way (x ∷ xs) t)) (ownersRefit s way (x ∷ xs) t a)
       go (inl b) = absurd (some-entry (ap (λ u. length (u .entries)) (b .0 .is)))
       go (inr w) =
-          let q = refit-whole s x xs t rows a (caps-of z) w (let n = some-entry in omega arith) h in
+          let q = refit-whole s way names x xs t rows a (caps-of z) w (let n = some-entry in omega arith) h in
           let few = q .2 in
           let running = q .3 in
           let old = r .few in
           (record { rests = record { holds = inr (q .0); few = omega arith; below = subst (Below s) (sym running) (r .below) }; owned = q .1 }, q .4)
 
   -- an effective refit asks nothing of the account before it
-  pub effective-owning : (xs : List (List Float)) (t : Tree) (rows : ℕ) (a : List ℕ) → AtRest s t rows → effective xs t ≡ true → length xs ≤ most
-      → Owning s (refitted s xs t) (length xs) (ownersRefit s xs t a)
-  effective-owning xs t rows a r e h = effective-both xs t rows a r e h .0
+  pub effective-owning : (way : Route) → Names s way → (xs : List (List Float)) (t : Tree) (rows : ℕ) (a : List ℕ) → AtRest s t rows → effective xs t ≡ true → length xs ≤ most
+      → Owning s (refitted s way xs t) (length xs) (ownersRefit s way xs t a)
+  effective-owning way names xs t rows a r e h = effective-both way names xs t rows a r e h .0
 
   -- nor of what the entries were made of: they are made of its own rows
-  pub effective-made : (xs : List (List Float)) (t : Tree) (rows : ℕ) (a : List ℕ) → AtRest s t rows → effective xs t ≡ true → length xs ≤ most
-      → AllMade s xs (entryAt (refitted s xs t)) (ownersRefit s xs t a)
-  effective-made xs t rows a r e h = effective-both xs t rows a r e h .1
+  pub effective-made : (way : Route) → Names s way → (xs : List (List Float)) (t : Tree) (rows : ℕ) (a : List ℕ) → AtRest s t rows → effective xs t ≡ true → length xs ≤ most
+      → AllMade s xs (entryAt (refitted s way xs t)) (ownersRefit s way xs t a)
+  effective-made way names xs t rows a r e h = effective-both way names xs t rows a r e h .1
 
 -- any other refit alters nothing
-pub idle-refit : (s : Settings) (xs : List (List Float)) (t : Tree) (a : List ℕ) → effective xs t ≡ false → (refitted s xs t ≡ t) × (ownersRefit s xs t a ≡ a)
+pub idle-refit : (s : Settings) (way : Route) (xs : List (List Float)) (t : Tree) (a : List ℕ) → effective xs t ≡ false → (refitted s way xs t ≡ t) × (ownersRefit s way xs t a ≡ a)
 unfolding effective refitted ownersRefit
-idle-refit s [] t a e = (refl, refl)
-idle-refit s (x ∷ xs) t a e = go (eqb (length (t .entries)) 0) e _ _
+idle-refit s way [] t a e = (refl, refl)
+idle-refit s way (x ∷ xs) t a e = go (eqb (length (t .entries)) 0) e _ _
   where
     go : (b : Bool) → not b ≡ false → (u : Tree) (c : List ℕ) → (cond b t u ≡ t) × (cond b a c ≡ a)
     go true e u c = (refl, refl)

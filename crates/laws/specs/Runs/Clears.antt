@@ -16,7 +16,6 @@ use Rattle.head.specs.Limits.{Sized, allowed-sized}
 use Rattle.rules.specs.declared.Verdict.the-variants.{Passes}
 use Rattle.rules.specs.Lists.{snoc, table}
 use Rattle.rules.specs.Tree.{Tree}
-use Rattle.rules.specs.Rebuild.{inserted, insertedAll}
 use Rattle.rules.specs.Refit.{refitted}
 use Rattle.rules.specs.Check.{checked, totalOf}
 use Rattle.rules.specs.Slices.{nodeIn, slotAt, treeOf}
@@ -35,6 +34,9 @@ use Rattle.laws.specs.Runs.Lent.{standing, standing-owned}
 use Rattle.laws.specs.Runs.Fitting.{resting-fits}
 use Rattle.laws.specs.Runs.OneCall.{row-accepted, batch-accepted, refit-accepted}
 use Rattle.laws.specs.Runs.Public.{calls-rest}
+use Rattle.rules.specs.Route.{greedy}
+use Rattle.laws.specs.Refitting.Names.{greedy-names}
+use Rattle.rules.specs.Rows.{inserted, insertedAll}
 
 -- ---- a lent tree has its shape, whatever the slices hold
 
@@ -111,12 +113,12 @@ module _ (h : Head) (l : Lent) where
         subst (Clears h l) (sym is) (go (effective (rowsIn h xs) t) z (rest (a .passes)) small refl)
       where
         go : (b : Bool) → Sized s → AtRest s t rows → (0 < length (t .entries) → length (rowsIn h xs) ≤ most) → effective (rowsIn h xs) t ≡ b
-            → Clears h l (changed h l (refitted s (rowsIn h xs) t))
+            → Clears h l (changed h l (refitted s (greedy s) (rowsIn h xs) t))
         go true z r small q =
-            let o = effective-owning z (rowsIn h xs) t rows (standing 0 (t .entries)) r q (small (effective-some (rowsIn h xs) t q)) in
-            cleared (refitted s (rowsIn h xs) t) (length (rowsIn h xs)) z (o .rests) (refit-shaped s (rowsIn h xs) t (shaped z))
+            let o = effective-owning z (greedy s) (greedy-names s) (rowsIn h xs) t rows (standing 0 (t .entries)) r q (small (effective-some (rowsIn h xs) t q)) in
+            cleared (refitted s (greedy s) (rowsIn h xs) t) (length (rowsIn h xs)) z (o .rests) (refit-shaped s (greedy s) (rowsIn h xs) t (shaped z))
         go false z r small q =
-            let i = idle-refit s (rowsIn h xs) t [] q .0 in
+            let i = idle-refit s (greedy s) (rowsIn h xs) t [] q .0 in
             subst (λ u. Clears h l (changed h l u)) (sym i) (cleared t rows z r (shaped z))
 
   -- ---- any tree that is lent

@@ -14,10 +14,9 @@ use Rattle.head.specs.declared.Settings.{Settings}
 use Rattle.head.specs.Limits.{Sized}
 use Rattle.rules.specs.declared.Verdict.the-variants.{Passes}
 use Rattle.rules.specs.Lists.{occurs}
-use Rattle.rules.specs.Tree.{Tree, nodeAt, entryAt}
-use Rattle.rules.specs.Rebuild.{inserted, insertedAll}
+use Rattle.rules.specs.Tree.{Tree, nodeAt, entryAt, rowsIn}
 use Rattle.rules.specs.Refit.{refitted}
-use Rattle.rules.specs.Check.{checked, rowsIn, totalOf}
+use Rattle.rules.specs.Check.{checked, totalOf}
 use Rattle.counting.specs.Count.{is-same, is-other}
 use Rattle.counting.specs.Sums.{occurs-cons, occurs-append}
 use Rattle.laws.specs.Invariant.Weights.{exact-count, blank-exact}
@@ -31,6 +30,9 @@ use Rattle.laws.specs.Ownership.Account.{owned-account}
 use Rattle.laws.specs.Runs.Calls.{Owning, row-owning, batch-owning, effective-owning, idle-refit}
 use Rattle.laws.specs.Runs.Runs.{owned-length, effective-some}
 use Rattle.head.specs.declared.Running.{Running}
+use Rattle.rules.specs.Route.{Route}
+use Rattle.laws.specs.Refitting.Names.{Names}
+use Rattle.rules.specs.Rows.{inserted, insertedAll}
 
 -- ---- an account of any tree: each entry's number as often as it weighs, from number i on
 
@@ -124,11 +126,11 @@ module _ {s : Settings} (z : Sized s) (t : Tree) (n : Binary64 t) (ok : checked 
   batch-passes xs h =
       resting-passes s (insertedAll s xs t) _ (batch-owning z xs t (totalOf (t .entries)) (standing 0 (t .entries)) (lent-owning s t n ok) h .rests)
 
-  pub refit-passes : (xs : List (List Float)) → (0 < length (t .entries) → length xs ≤ most) → checked s (refitted s xs t) ≡ Passes
-  refit-passes xs h = go (effective xs t) refl
+  pub refit-passes : (way : Route) → Names s way → (xs : List (List Float)) → (0 < length (t .entries) → length xs ≤ most) → checked s (refitted s way xs t) ≡ Passes
+  refit-passes way names xs h = go (effective xs t) refl
     where
-      go : (b : Bool) → effective xs t ≡ b → checked s (refitted s xs t) ≡ Passes
+      go : (b : Bool) → effective xs t ≡ b → checked s (refitted s way xs t) ≡ Passes
       go true e =
-          resting-passes s (refitted s xs t) _ (effective-owning z xs t (totalOf (t .entries)) (standing 0 (t .entries)) (passing-rests s t n ok) e
+          resting-passes s (refitted s way xs t) _ (effective-owning z way names xs t (totalOf (t .entries)) (standing 0 (t .entries)) (passing-rests s t n ok) e
           (h (effective-some xs t e)) .rests)
-      go false e = ap (λ u. checked s u) (idle-refit s xs t (standing 0 (t .entries)) e .0) ∙ ok
+      go false e = ap (λ u. checked s u) (idle-refit s way xs t (standing 0 (t .entries)) e .0) ∙ ok

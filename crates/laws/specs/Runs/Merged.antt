@@ -9,13 +9,14 @@ use lib.ListN.{length}
 use lib.Ieee.{Float}
 use Rattle.head.specs.declared.Settings.{Settings}
 use Rattle.rules.specs.Tree.{Tree, onRunning}
-use Rattle.rules.specs.Insert.{grown}
+use Rattle.rules.specs.Insert.{grown, rowItem}
 use Rattle.rules.specs.Pairs.{siblings, cousins}
 use Rattle.rules.specs.declared.Pair.{Pair}
-use Rattle.rules.specs.Rebuild.{Merging, dropped, withMerges, rebalanced, compacted, mergedBy, mergedWith, counted, rebuilt, inserted}
+use Rattle.rules.specs.Rebuild.{Merging, dropped, withMerges, rebalanced, compacted, mergedBy, mergedWith, counted, rebuilt}
 use Rattle.rules.specs.Reinsert.{reinserted}
 use Rattle.laws.specs.Running.{grown-running, reinserted-running, refolded-running, Below}
 use Rattle.head.specs.Counting.{withRebuilds, withMerged}
+use Rattle.rules.specs.Rows.{inserted}
 
 balanced-merged : (s : Settings) (across : Bool) (t : Tree) → 1 ≤ s .«max_leaves» → Below s ((rebalanced s across t) .running)
 unfolding rebalanced
@@ -55,11 +56,11 @@ rebuilt-merged s t one h =
 pub inserted-merged : (s : Settings) (x : List Float) (t : Tree) → 1 ≤ s .«max_leaves» → Below s (t .running)
     → Below s ((inserted s x t) .running)
 unfolding inserted
-inserted-merged s x t one h = go (ltb (s .«max_leaves») (length ((grown s x t) .entries)))
+inserted-merged s x t one h = go (ltb (s .«max_leaves») (length ((grown s (rowItem s x) t) .entries)))
   where
-    same : Below s ((grown s x t) .running)
-    same = subst (Below s) (sym (grown-running s x t)) h
+    same : Below s ((grown s (rowItem s x) t) .running)
+    same = subst (Below s) (sym (grown-running s (rowItem s x) t)) h
 
-    go : (b : Bool) → Below s ((cond b (rebuilt s (grown s x t)) (grown s x t)) .running)
-    go true = rebuilt-merged s (grown s x t) one same
+    go : (b : Bool) → Below s ((cond b (rebuilt s (grown s (rowItem s x) t)) (grown s (rowItem s x) t)) .running)
+    go true = rebuilt-merged s (grown s (rowItem s x) t) one same
     go false = same

@@ -25,18 +25,20 @@ use Rattle.rules.specs.Creation.{made-done}
 use Rattle.rules.specs.Lists.{rowsOf}
 use Rattle.rules.specs.Stored.{stored}
 use Rattle.rules.specs.Check.{totalOf}
-use Rattle.rules.specs.Insert.{grown}
-use Rattle.rules.specs.Rebuild.{insertedAll, inserted}
+use Rattle.rules.specs.Insert.{grown, rowItem}
 use Rattle.rules.specs.Refit.{refitted}
 use Rattle.laws.specs.Runs.Runs as Runs
 use Rattle.laws.specs.Shapes.{fresh-shaped, ShapedTree, batch-shaped, refit-shaped}
-use Rattle.laws.specs.Demand.{rowsIn, after, ownersIn, ownersAll, ownersRefit, Local, rowsRefit}
+use Rattle.laws.specs.Demand.{rowsIn, after, ownersIn, ownersAll, ownersRefit, rowsRefit, RowLocal}
 use Rattle.laws.specs.Locality.Row.{no-rebuild, row-local}
 use Rattle.laws.specs.Runs.Runs.{Run, rest-total, run-owning, insert, refit}
 use Rattle.laws.specs.Runs.Threshold.{inserted-fine, all-fine, refitted-fine, fine-lent, limits-kept}
 use Rattle.laws.specs.Runs.Fitting.{resting-fits}
 use Rattle.laws.specs.Running.{Fine}
 use Rattle.head.specs.Counting.{newRunning}
+use Rattle.rules.specs.Route.{greedy}
+use Rattle.laws.specs.Refitting.Names.{greedy-names}
+use Rattle.rules.specs.Rows.{insertedAll, inserted}
 
 -- ---- what holds throughout: the head is within its limits, the buffers have room, and the lent tree is that of a run over the rules
 
@@ -117,11 +119,11 @@ module _ (h : Head) (l : Lent) where
       (is, rw (rows-count n (s .dim) xs) (batch-taken h l xs taken .room))
 
   pub refit-accepted : (xs : List Float) → batchRefitted h l xs .answer ≡ Accepted
-      → (batchRefitted h l xs ≡ changed h l (refitted s (rowsIn h xs) t)) × (0 < length (t .entries) → length (rowsIn h xs) ≤ most)
+      → (batchRefitted h l xs ≡ changed h l (refitted s (greedy s) (rowsIn h xs) t)) × (0 < length (t .entries) → length (rowsIn h xs) ≤ most)
   unfolding batchRefitted rowsIn
   refit-accepted xs e =
       let n = length xs / s .dim in
-      let (taken, is) = accepted-done (refitRefusals h l xs) h l (changed h l (refitted s (rowsOf n (s .dim) xs) t)) e in
+      let (taken, is) = accepted-done (refitRefusals h l xs) h l (changed h l (refitted s (greedy s) (rowsOf n (s .dim) xs) t)) e in
       (is, rw (rows-count n (s .dim) xs) (refit-taken h l xs taken .room))
 
   module _ (ys : List (List Float)) (a : List ℕ) (p : Public h (l .floats) (l .links) ys a) where
@@ -149,13 +151,13 @@ module _ (h : Head) (l : Lent) where
         (next h l p (insertedAll s rows t) (ys ++ rows) (ownersAll s rows t a) (all-fine s rows t) run (batch-shaped s rows t (p .shaped)))
 
     after-refit : (xs : List Float) → batchRefitted h l xs .answer ≡ Accepted
-        → PublicAfter (batchRefitted h l xs) (rowsRefit (rowsIn h xs) t ys) (ownersRefit s (rowsIn h xs) t a)
+        → PublicAfter (batchRefitted h l xs) (rowsRefit (rowsIn h xs) t ys) (ownersRefit s (greedy s) (rowsIn h xs) t a)
     after-refit xs e =
         let rows = rowsIn h xs in
         let (is, small) = refit-accepted xs e in
-        let run : Run s (p .threshold) (refitted s rows t) (rowsRefit rows t ys) (ownersRefit s rows t a) = refit {t = t} rows small (p .run) in
-        subst (λ o. PublicAfter o (rowsRefit rows t ys) (ownersRefit s rows t a)) (sym is)
-        (next h l p (refitted s rows t) (rowsRefit rows t ys) (ownersRefit s rows t a) (refitted-fine s rows t) run (refit-shaped s rows t (p .shaped)))
+        let run : Run s (p .threshold) (refitted s (greedy s) rows t) (rowsRefit rows t ys) (ownersRefit s (greedy s) rows t a) = refit {t = t} (greedy-names s) rows small (p .run) in
+        subst (λ o. PublicAfter o (rowsRefit rows t ys) (ownersRefit s (greedy s) rows t a)) (sym is)
+        (next h l p (refitted s (greedy s) rows t) (rowsRefit rows t ys) (ownersRefit s (greedy s) rows t a) (refitted-fine s (greedy s) rows t) run (refit-shaped s (greedy s) rows t (p .shaped)))
 
     -- ---- with any answer
 
@@ -171,14 +173,14 @@ module _ (h : Head) (l : Lent) where
         answered (batchRefusals h l xs) h l (insertedAll s (rowsOf (length xs / s .dim) (s .dim) xs) t) p (after-batch xs) o e
 
     pub any-refit : (xs : List Float) (o : Left) → o ≡ batchRefitted h l xs
-        → PublicAfter o (after (o .answer) (rowsRefit (rowsIn h xs) t ys) ys) (after (o .answer) (ownersRefit s (rowsIn h xs) t a) a)
+        → PublicAfter o (after (o .answer) (rowsRefit (rowsIn h xs) t ys) ys) (after (o .answer) (ownersRefit s (greedy s) (rowsIn h xs) t a) a)
     unfolding batchRefitted rowsIn
-    any-refit xs o e = answered (refitRefusals h l xs) h l (refitted s (rowsOf (length xs / s .dim) (s .dim) xs) t) p (after-refit xs) o e
+    any-refit xs o e = answered (refitRefusals h l xs) h l (refitted s (greedy s) (rowsOf (length xs / s .dim) (s .dim) xs) t) p (after-refit xs) o e
 
     -- ---- locality of an accepted row without a rebuild
 
-    pub row-left : (x : List Float) → rowInserted h l x .answer ≡ Accepted → length ((grown s x t) .entries) ≤ s .«max_leaves»
-        → let o = rowInserted h l x in Local s x t (lentTree (o .head) (o .lent .floats) (o .lent .links))
+    pub row-left : (x : List Float) → rowInserted h l x .answer ≡ Accepted → length ((grown s (rowItem s x) t) .entries) ≤ s .«max_leaves»
+        → let o = rowInserted h l x in RowLocal s x t (lentTree (o .head) (o .lent .floats) (o .lent .links))
     row-left x e few =
         let (is, small) = row-accepted x e in
         let (run, k) = row-run x small in
@@ -187,8 +189,8 @@ module _ (h : Head) (l : Lent) where
         let q = run-owning z run .rests in
         let n = rest-total (o .rests) in
         let left = changed-tree h l (inserted s x t) z (resting-fits z (inserted s x t) (length (ys ++ (x ∷ []))) q k) in
-        subst (λ o. Local s x t (lentTree (o .head) (o .lent .floats) (o .lent .links))) (sym is)
-        (subst (λ u. Local s x t u) (sym (left ∙ no-rebuild s x t few)) (row-local s x t z (o .rests) (omega arith)))
+        subst (λ o. RowLocal s x t (lentTree (o .head) (o .lent .floats) (o .lent .links))) (sym is)
+        (subst (λ u. RowLocal s x t u) (sym (left ∙ no-rebuild s x t few)) (row-local s x t z (o .rests) (omega arith)))
 
 -- creation
 abbrev PublicMade : Made → Type 0

@@ -17,14 +17,16 @@ use Rattle.head.specs.Sizes.{floatsNeeded, linksNeeded, scratchFloatsNeeded, sc
 use Rattle.rules.specs.Calls.{unless, settingsRefusal, roomRefusal, treeRefusal, rowShapeRefusal, batchShapeRefusal, insertFullRefusal, refitFullRefusal}
 use Rattle.rules.specs.Calls.{Lent, lentTree, createRefusals, treeRefusals, changeRefusals, rowAsked, rowsAsked, batchAsked, refitAsked, rowRefusals, batchRefusals, refitRefusals, changed, settle, rowInserted, batchInserted, batchRefitted}
 use Rattle.rules.specs.Tree.{Tree}
-use Rattle.rules.specs.Insert.{grown}
+use Rattle.rules.specs.Insert.{grown, rowItem}
 use Rattle.rules.specs.Check.{totalOf}
-use Rattle.laws.specs.Demand.{rowsIn, Calls, create, row, batch, refitAll, createAgain, read, Promise, Local}
+use Rattle.laws.specs.Demand.{rowsIn, Calls, create, row, batch, refitAll, createAgain, read, Promise, RowLocal}
 use Rattle.laws.specs.Check.Both.{AtRest, resting-passes}
 use Rattle.laws.specs.Room.Nodes.{Roomy}
 use Rattle.laws.specs.Room.Calls.{Inserting, InsertingAll, Refitting, inserting-roomy, inserting-all-roomy, refitting-roomy}
 use Rattle.laws.specs.Runs.Runs.{rest-total, run-owning, run-keeps}
 use Rattle.laws.specs.Runs.OneCall.{Public, sizes-of, row-accepted, batch-accepted, refit-accepted, any-row, any-batch, any-refit, row-left, after-create, after-refused}
+use Rattle.rules.specs.Route.{greedy}
+use Rattle.laws.specs.Refitting.Names.{greedy-names}
 
 -- ---- any calls
 
@@ -50,8 +52,8 @@ calls-rest c = let p = calls-public c in run-owning (sizes-of p) (p .run) .rests
 -- one more row, accepted and without a rebuild: between the trees in the buffers
 module _ {h : Head} (l : Lent) {ys : List (List Float)} {a : List ℕ} (c : Calls h (l .floats) (l .links) ys a) where
   pub calls-local : (x : List Float) → rowInserted h l x .answer ≡ Accepted
-      → length ((grown (settingsOf h) x (lentTree h (l .floats) (l .links))) .entries) ≤ settingsOf h .«max_leaves»
-      → let o = rowInserted h l x in Local (settingsOf h) x (lentTree h (l .floats) (l .links)) (lentTree (o .head) (o .lent .floats) (o .lent .links))
+      → length ((grown (settingsOf h) (rowItem (settingsOf h) x) (lentTree h (l .floats) (l .links))) .entries) ≤ settingsOf h .«max_leaves»
+      → let o = rowInserted h l x in RowLocal (settingsOf h) x (lentTree h (l .floats) (l .links)) (lentTree (o .head) (o .lent .floats) (o .lent .links))
   calls-local x e few = row-left h l ys a (calls-public c) x e few
 
   -- room at every moment of the next call
@@ -70,9 +72,9 @@ module _ {h : Head} (l : Lent) {ys : List (List Float)} {a : List ℕ} (c : Call
       inserting-all-roomy (sizes-of (calls-public c)) (rowsIn h xs) (lentTree h (l .floats) (l .links)) (calls-rest c) (omega arith) w
 
   pub refit-roomy : (xs : List Float) → batchRefitted h l xs .answer ≡ Accepted → {u : Tree}
-      → Refitting (settingsOf h) (rowsIn h xs) (lentTree h (l .floats) (l .links)) u → Roomy (settingsOf h) u
+      → Refitting (settingsOf h) (greedy (settingsOf h)) (rowsIn h xs) (lentTree h (l .floats) (l .links)) u → Roomy (settingsOf h) u
   refit-roomy xs e w =
-      refitting-roomy (sizes-of (calls-public c)) (rowsIn h xs) (lentTree h (l .floats) (l .links)) (calls-rest c) (refit-accepted h l xs e .1) w
+      refitting-roomy (greedy-names (settingsOf h)) (sizes-of (calls-public c)) (rowsIn h xs) (lentTree h (l .floats) (l .links)) (calls-rest c) (refit-accepted h l xs e .1) w
 
 -- ---- a run can always go on: what any calls left is refused by none of 1, 2 and 3
 

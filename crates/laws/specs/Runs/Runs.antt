@@ -15,7 +15,6 @@ use Rattle.head.specs.Limits.{Sized}
 use Rattle.rules.specs.Lists.{occurs}
 use Rattle.rules.specs.CheckLaws.{passes-total}
 use Rattle.rules.specs.Tree.{Tree, fresh, entryAt}
-use Rattle.rules.specs.Rebuild.{insertedAll}
 use Rattle.rules.specs.Refit.{refitted}
 use Rattle.rules.specs.Check.{totalOf, leafLists}
 use Rattle.counting.specs.Count.{below, below-in, below-out}
@@ -33,6 +32,9 @@ use Rattle.laws.specs.Runs.Threshold.{all-fine, refitted-fine}
 use Rattle.laws.specs.Runs.Calls.{Owning, batch-owning, batch-made, effective-owning, effective-made, idle-refit, fresh-rests}
 use Rattle.head.specs.Counting.{newRunning}
 use Rattle.laws.specs.Running.{InLimits, Fine}
+use Rattle.rules.specs.Route.{Route}
+use Rattle.laws.specs.Refitting.Names.{Names}
+use Rattle.rules.specs.Rows.{insertedAll}
 
 -- a run from a fresh tree of threshold h: the tree that it leaves, the rows since the last effective refit with that refit's own,
 -- and whose each of these rows is.
@@ -41,8 +43,8 @@ pub data Run (s : Settings) (h : Float) : Tree → List (List Float) → List �
   created : Run s h (fresh h) [] []
   insert : {t : Tree} {ys : List (List Float)} {a : List ℕ} (xs : List (List Float)) → totalOf (t .entries) + length xs ≤ most → Run s h t ys a
       → Run s h (insertedAll s xs t) (ys ++ xs) (ownersAll s xs t a)
-  refit : {t : Tree} {ys : List (List Float)} {a : List ℕ} (xs : List (List Float)) → (0 < length (t .entries) → length xs ≤ most) → Run s h t ys a
-      → Run s h (refitted s xs t) (rowsRefit xs t ys) (ownersRefit s xs t a)
+  refit : {t : Tree} {ys : List (List Float)} {a : List ℕ} {way : Route} → Names s way → (xs : List (List Float)) → (0 < length (t .entries) → length xs ≤ most) → Run s h t ys a
+      → Run s h (refitted s way xs t) (rowsRefit xs t ys) (ownersRefit s way xs t a)
 
 -- ---- what holds throughout
 
@@ -62,29 +64,29 @@ effective-some (x ∷ xs) t e = go (length (t .entries)) e
     go zero e = let z : _≡_ {A = ℕ} 0 1 = cc in absurd (omega arith)
     go (suc n) e = omega arith
 
-refit-owning : {s : Settings} → Sized s → (xs : List (List Float)) (t : Tree) (ys : List (List Float)) (a : List ℕ)
-    → (0 < length (t .entries) → length xs ≤ most) → Owning s t (length ys) a → Owning s (refitted s xs t) (length (rowsRefit xs t ys)) (ownersRefit s xs t a)
+refit-owning : {s : Settings} → Sized s → (way : Route) → Names s way → (xs : List (List Float)) (t : Tree) (ys : List (List Float)) (a : List ℕ)
+    → (0 < length (t .entries) → length xs ≤ most) → Owning s t (length ys) a → Owning s (refitted s way xs t) (length (rowsRefit xs t ys)) (ownersRefit s way xs t a)
 unfolding rowsRefit
-refit-owning {s} z xs t ys a room o = go (effective xs t) refl
+refit-owning {s} z way names xs t ys a room o = go (effective xs t) refl
   where
-    go : (b : Bool) → effective xs t ≡ b → Owning s (refitted s xs t) (length (cond b xs ys)) (ownersRefit s xs t a)
-    go true e = effective-owning z xs t (length ys) a (o .rests) e (room (effective-some xs t e))
+    go : (b : Bool) → effective xs t ≡ b → Owning s (refitted s way xs t) (length (cond b xs ys)) (ownersRefit s way xs t a)
+    go true e = effective-owning z way names xs t (length ys) a (o .rests) e (room (effective-some xs t e))
     go false e =
-        let q = idle-refit s xs t a e in
-        subst (λ u. Owning s u (length ys) (ownersRefit s xs t a)) (sym (q .0)) (subst (λ c. Owning s t (length ys) c) (sym (q .1)) o)
+        let q = idle-refit s way xs t a e in
+        subst (λ u. Owning s u (length ys) (ownersRefit s way xs t a)) (sym (q .0)) (subst (λ c. Owning s t (length ys) c) (sym (q .1)) o)
 
 -- after a refit each entry is made of the refit's rows; one that is not effective leaves all
-refit-made : {s : Settings} → Sized s → (xs : List (List Float)) (t : Tree) (ys : List (List Float)) (a : List ℕ)
+refit-made : {s : Settings} → Sized s → (way : Route) → Names s way → (xs : List (List Float)) (t : Tree) (ys : List (List Float)) (a : List ℕ)
     → (0 < length (t .entries) → length xs ≤ most) → AtRest s t (length ys) → AllMade s ys (entryAt t) a
-    → AllMade s (rowsRefit xs t ys) (entryAt (refitted s xs t)) (ownersRefit s xs t a)
+    → AllMade s (rowsRefit xs t ys) (entryAt (refitted s way xs t)) (ownersRefit s way xs t a)
 unfolding rowsRefit
-refit-made {s} z xs t ys a room r m = go (effective xs t) refl
+refit-made {s} z way names xs t ys a room r m = go (effective xs t) refl
   where
-    go : (b : Bool) → effective xs t ≡ b → AllMade s (cond b xs ys) (entryAt (refitted s xs t)) (ownersRefit s xs t a)
-    go true e = effective-made z xs t (length ys) a r e (room (effective-some xs t e))
+    go : (b : Bool) → effective xs t ≡ b → AllMade s (cond b xs ys) (entryAt (refitted s way xs t)) (ownersRefit s way xs t a)
+    go true e = effective-made z way names xs t (length ys) a r e (room (effective-some xs t e))
     go false e =
-        let q = idle-refit s xs t a e in
-        subst (λ u. AllMade s ys (entryAt u) (ownersRefit s xs t a)) (sym (q .0)) (subst (λ c. AllMade s ys (entryAt t) c) (sym (q .1)) m)
+        let q = idle-refit s way xs t a e in
+        subst (λ u. AllMade s ys (entryAt u) (ownersRefit s way xs t a)) (sym (q .0)) (subst (λ c. AllMade s ys (entryAt t) c) (sym (q .1)) m)
 
 module _ {s : Settings} (z : Sized s) {h : Float} where
   -- at rest, with an account, at the end of any run
@@ -94,7 +96,7 @@ module _ {s : Settings} (z : Sized s) {h : Float} where
       let o = run-owning r in
       let e = rest-total (o .rests) in
       subst (λ n. Owning s (insertedAll s xs t) n (ownersAll s xs t a)) (sym (length-append ys xs)) (batch-owning z xs t (length ys) a o (omega arith))
-  run-owning (refit {t} {ys} {a} xs room r) = refit-owning z xs t ys a room (run-owning r)
+  run-owning (refit {t} {ys} {a} {way} names xs room r) = refit-owning z way names xs t ys a room (run-owning r)
 
 -- the account is as long as the rows
 pub owned-length : {s : Settings} {t : Tree} {rows : ℕ} {a : List ℕ} → Owning s t rows a → length a ≡ rows
@@ -109,7 +111,7 @@ module _ {s : Settings} (z : Sized s) {h : Float} where
       let o = run-owning z r in
       let e = rest-total (o .rests) in
       batch-made z xs t ys a o (owned-length o) (omega arith) (run-made r)
-  run-made (refit {t} {ys} {a} xs room r) = refit-made z xs t ys a room (run-owning z r .rests) (run-made r)
+  run-made (refit {t} {ys} {a} {way} names xs room r) = refit-made z way names xs t ys a room (run-owning z r .rests) (run-made r)
 
 some-rows : {s : Settings} {t : Tree} {rows : ℕ} {a : List ℕ} → Owning s t rows a → 0 < rows → length (t .entries) ≡ 0 → ⊥
 some-rows {s} {t} o p e = let q = none-total (t .entries) e in let r = rest-total (o .rests) in omega arith
@@ -124,16 +126,16 @@ module _ {s : Settings} (z : Sized s) {h : Float} where
           → length ((insertedAll s xs t) .entries) ≡ 0 → insertedAll s xs t ≡ fresh h
       go [] room ih e = unfold insertedAll in ih e
       go (x ∷ xs) room ih e = absurd (some-rows (run-owning z (insert (x ∷ xs) room r)) (let q = length-append ys (x ∷ xs) in omega arith) e)
-  run-empty (refit {t} {ys} {a} xs room r) e = go (effective xs t) refl (λ q. run-empty r q)
+  run-empty (refit {t} {ys} {a} {way} names xs room r) e = go (effective xs t) refl (λ q. run-empty r q)
     where
-      go : (b : Bool) → effective xs t ≡ b → (length (t .entries) ≡ 0 → t ≡ fresh h) → refitted s xs t ≡ fresh h
+      go : (b : Bool) → effective xs t ≡ b → (length (t .entries) ≡ 0 → t ≡ fresh h) → refitted s way xs t ≡ fresh h
       go true q ih =
-          absurd (some-rows (run-owning z (refit xs room r)) (unfold rowsRefit in subst (λ b. 0 < length (cond b xs ys)) (sym q) (rows-some xs q)) e)
+          absurd (some-rows (run-owning z (refit names xs room r)) (unfold rowsRefit in subst (λ b. 0 < length (cond b xs ys)) (sym q) (rows-some xs q)) e)
         where
           rows-some : (xs : List (List Float)) → effective xs t ≡ true → 0 < length xs
           rows-some [] q = let z : _≡_ {A = ℕ} 0 1 = unfold effective in cc in absurd (omega arith)
           rows-some (x ∷ xs) q = omega arith
-      go false q ih = let i = idle-refit s xs t a q .0 in i ∙ ih (subst (λ u. length (u .entries) ≡ 0) i e)
+      go false q ih = let i = idle-refit s way xs t a q .0 in i ∙ ih (subst (λ u. length (u .entries) ≡ 0) i e)
 
   run-account : {t : Tree} {ys : List (List Float)} {a : List ℕ} → Run s h t ys a → Account t a
   run-account {t} {ys} {a} r = let o = run-owning z r in go o (o .rests .holds)
@@ -173,4 +175,4 @@ run-keeps {s} z {h} {t} {ys} {a} r =
 pub run-fine : {s : Settings} {h : Float} {t : Tree} {ys : List (List Float)} {a : List ℕ} → Run s h t ys a → InLimits h → Fine (t .running)
 run-fine created f = unfold fresh newRunning in f
 run-fine {s} (insert {t} xs room r) f = all-fine s xs t (run-fine r f)
-run-fine {s} (refit {t} xs room r) f = refitted-fine s xs t (run-fine r f)
+run-fine {s} (refit {t} {way = way} names xs room r) f = refitted-fine s way xs t (run-fine r f)

@@ -18,9 +18,9 @@ use Rattle.head.specs.declared.Settings.{Settings}
 use Rattle.head.specs.Heads.{withCounters}
 use Rattle.head.specs.Limits.{both, allowed, sizesWithin, choicesWithin, thresholdWithin}
 use Rattle.rules.specs.Rebuild.{growth, Merging, dropped, grownThreshold, withMerges, rebalanced, compacted, mergesOn}
-use Rattle.rules.specs.Rebuild.{mergedBy, mergedWith, counted, rebuilt, inserted, insertedAll}
+use Rattle.rules.specs.Rebuild.{mergedBy, mergedWith, counted, rebuilt}
 use Rattle.rules.specs.Tree.{Tree, withNodes, withEntries, onRunning}
-use Rattle.rules.specs.Insert.{grown}
+use Rattle.rules.specs.Insert.{grown, rowItem}
 use Rattle.rules.specs.Pairs.{siblings, cousins}
 use Rattle.rules.specs.declared.Pair.{Pair}
 use Rattle.rules.specs.Reinsert.{reinserted}
@@ -29,6 +29,8 @@ use Rattle.rules.specs.Slices.{treeOf, countersOf}
 use Rattle.rules.specs.Calls.{lentTree}
 use Rattle.laws.specs.Running.{InLimits, Fine, refolded-running, reinserted-running, refitted-running, grown-running}
 use Rattle.head.specs.Counting.{withThreshold, withRebuilds, withMerged}
+use Rattle.rules.specs.Route.{Route}
+use Rattle.rules.specs.Rows.{inserted, insertedAll}
 
 -- ---- floats
 
@@ -138,13 +140,13 @@ rebuilt-fine s t f =
 
 pub inserted-fine : (s : Settings) (x : List Float) (t : Tree) → Fine (t .running) → Fine ((inserted s x t) .running)
 unfolding inserted
-inserted-fine s x t f = go (ltb (s .«max_leaves») (length ((grown s x t) .entries)))
+inserted-fine s x t f = go (ltb (s .«max_leaves») (length ((grown s (rowItem s x) t) .entries)))
   where
-    same : Fine ((grown s x t) .running)
-    same = subst Fine (sym (grown-running s x t)) f
+    same : Fine ((grown s (rowItem s x) t) .running)
+    same = subst Fine (sym (grown-running s (rowItem s x) t)) f
 
-    go : (b : Bool) → Fine ((cond b (rebuilt s (grown s x t)) (grown s x t)) .running)
-    go true = rebuilt-fine s (grown s x t) same
+    go : (b : Bool) → Fine ((cond b (rebuilt s (grown s (rowItem s x) t)) (grown s (rowItem s x) t)) .running)
+    go true = rebuilt-fine s (grown s (rowItem s x) t) same
     go false = same
 
 pub all-fine : (s : Settings) (xs : List (List Float)) (t : Tree) → Fine (t .running) → Fine ((insertedAll s xs t) .running)
@@ -152,8 +154,8 @@ unfolding insertedAll
 all-fine s [] t f = f
 all-fine s (x ∷ xs) t f = all-fine s xs (inserted s x t) (inserted-fine s x t f)
 
-pub refitted-fine : (s : Settings) (xs : List (List Float)) (t : Tree) → Fine (t .running) → Fine ((refitted s xs t) .running)
-refitted-fine s xs t f = subst Fine (sym (refitted-running s xs t)) f
+pub refitted-fine : (s : Settings) (way : Route) (xs : List (List Float)) (t : Tree) → Fine (t .running) → Fine ((refitted s way xs t) .running)
+refitted-fine s way xs t f = subst Fine (sym (refitted-running s way xs t)) f
 
 -- ---- heads
 

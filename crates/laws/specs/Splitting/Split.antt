@@ -8,9 +8,8 @@ use lib.ListN.{length}
 use Rattle.binary64.specs.Whole.{most}
 use Rattle.head.specs.declared.Settings.{Settings}
 use Rattle.rules.specs.Lists.{occurs}
-use Rattle.rules.specs.Tree.{Tree, nodeAt, child}
+use Rattle.rules.specs.Tree.{Tree, nodeAt, child, rowsIn}
 use Rattle.rules.specs.Split.{split, gathered}
-use Rattle.rules.specs.Check.{rowsIn}
 use Rattle.laws.specs.Invariant.Weights.{IsExact, Exactly, exact-count, exact-is, gather-exact, weightOf}
 use Rattle.counting.specs.Count.{is, below-lt, same?}
 use Rattle.counting.specs.Sums.{over, sumTo, sum-at, occurs-over}

@@ -9,10 +9,9 @@ use native.Mathlib.Omega.{arith}
 use lib.Dec.{T, leb→le, nleb→lt}
 use lib.ListN.{length}
 use Rattle.head.specs.declared.Settings.{Settings}
-use Rattle.rules.specs.Tree.{Tree, nodeAt, entryAt, child, cap, withNodes, withRoot}
+use Rattle.rules.specs.Tree.{Tree, nodeAt, entryAt, child, cap, withNodes, withRoot, rowsIn}
 use Rattle.rules.specs.Split.{split, crowned, fitting, splitNext, splitIf, splitUp, parted, gathered}
 use Rattle.rules.specs.Lists.{occurs}
-use Rattle.rules.specs.Check.{rowsIn}
 use Rattle.laws.specs.Invariant.Weights.{IsExact, Exactly, exact-count, exact-is, gather-exact, weightOf}
 use Rattle.counting.specs.Count.{is, is-other, same?, lt-ne}
 use Rattle.counting.specs.Sums.{over, occurs-cons}

@@ -12,12 +12,13 @@ use Rattle.rows.specs.Rows.{row-in, row-wide}
 use Rattle.scratch.specs.Slots.{slotsIn, slot-there}
 use Rattle.pouring.specs.Pouring.{pouredFrom, pour-start, pour-turn, pour-end}
 use Rattle.pouring.proofs.pour_rows.Statement.{statement}
+use Rattle.rules.specs.Route.{greedy}
 use Rattle.pouring.proofs.pour_rows.Tie as tie
 
 abbrev Inv-loop : tie.InvT-loop
 Inv-loop s n floats links scratch₀ rows count k₀ scratch k =
     let t = treeOf s n floats links in
-    (length scratch ≡ length scratch₀) × (pouredFrom s n t rows count k scratch ≡ poured s t (rowsOf count (s .dim) rows) (slotsIn s scratch₀ (n .entries)))
+    (length scratch ≡ length scratch₀) × (pouredFrom s n t rows count k scratch ≡ poured s (greedy s t) (rowsOf count (s .dim) rows) (slotsIn s scratch₀ (n .entries)))
 
 abbrev μ-loop : tie.MeasureT-loop
 μ-loop s n floats links scratch₀ rows count k₀ scratch k = count - k

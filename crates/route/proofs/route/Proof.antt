@@ -4,7 +4,7 @@ use borrow.Author.Needs.{needs}
 use Rattle.rules.specs.Tree.{Tree, distTo}
 use Rattle.rules.specs.Slices.{treeOf}
 use Rattle.rules.specs.Descent.{leafFor}
-use Rattle.descent.specs.Items.{fits-row, distance-row}
+use Rattle.descent.specs.Forms.{fits-row, item-row}
 use Rattle.route.specs.Routing.{routable-sure, leaf-some, leaf-entries, route-is}
 use Rattle.route.proofs.route.Statement.{statement}
 use Rattle.route.proofs.route.Tie as tie
@@ -18,7 +18,7 @@ abbrev tree : tie.Start → Tree
 tree c = treeOf (c .args .s) (c .args .n) (c .args .floats .now) (c .args .links .now)
 
 leaf : (c : tie.After-descend) → c .descend .result ≡ leafFor (tree (start c)) (λ d. distTo (start c .args .s) d (start c .args .row .now))
-leaf c = c .descend .ensures .0 ∙ ap (leafFor (tree (start c))) (distance-row (start c .args .s) (start c .args .row .now))
+leaf c = c .descend .ensures .0 ∙ ap (λ i. leafFor (tree (start c)) (i .near)) (item-row (start c .args .s) (start c .args .row .now))
 
 descend-requires : tie.Need-descend-requires
 descend-requires c κs =

@@ -3,10 +3,10 @@ use mathlib.Core.Path.{ap, _∙_}
 use mathlib.Core.List.{[]}
 use borrow.Author.Needs.{needs}
 use Rattle.binary64.specs.Counts.{isCount}
-use Rattle.rules.specs.Check.{rowsIn}
 use Rattle.weights.specs.Adding.{addsUp}
 use Rattle.weights.specs.Weighable.{node-counts}
 use Rattle.weights.proofs.adds_up.Statement.{statement}
+use Rattle.rules.specs.Tree.{rowsIn}
 use Rattle.weights.proofs.adds_up.Tie as tie
 
 weight-requires : tie.Need-weight-requires

@@ -1,7 +1,7 @@
 -- `adding::rows_at` meets its contract: what the place names is there, and weighs a count.
-use Rattle.rules.specs.Check.{rowsIn}
 use Rattle.weights.specs.Weighable.{rowsAt, child-in, child-counts}
 use Rattle.weights.proofs.rows_at.Statement.{statement}
+use Rattle.rules.specs.Tree.{rowsIn}
 use Rattle.weights.proofs.rows_at.Tie as tie
 
 is-leaf-requires : tie.Need-is-leaf-requires

@@ -7,8 +7,7 @@ use borrow.Author.Needs.{needs}
 use lib.Ieee.{toUnsigned}
 use Rattle.binary64.specs.Counts.{isCount}
 use Rattle.head.specs.Sizes.{entries-small}
-use Rattle.rules.specs.Tree.{entryAt}
-use Rattle.rules.specs.Check.{rowsIn}
+use Rattle.rules.specs.Tree.{entryAt, rowsIn}
 use Rattle.counting.specs.Sums.{sumTo}
 use Rattle.arena.specs.Trees.{AnyLinks}
 use Rattle.lists.specs.Loops.{sum-none, sum-more, sum-end}

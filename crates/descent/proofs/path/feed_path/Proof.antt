@@ -8,7 +8,7 @@ use lib.ListN.{length}
 use Rattle.rules.specs.Slices.{treeOf}
 use Rattle.rules.specs.Descent.{alongPath}
 use Rattle.arena.specs.Trees.{count-nodes}
-use Rattle.descent.specs.Items.{taking}
+use Rattle.descent.specs.Forms.{itemOf}
 use Rattle.listed.specs.Sure.{parent-there}
 use Rattle.stretch.specs.Blocks.{no-parent, a-parent}
 use Rattle.descent.specs.Paths.{climbedFrom, up-start, up-on, up-top, up-end}
@@ -16,12 +16,12 @@ use Rattle.descent.proofs.path.feed_path.Statement.{statement}
 use Rattle.descent.proofs.path.feed_path.Tie as tie
 
 abbrev Inv-loop : tie.InvT-loop
-Inv-loop s n floats₀ links leaf item x i₀ left₀ floats i left =
+Inv-loop s n floats₀ links leaf form x i₀ left₀ floats i left =
     (i < n .nodes) × (length floats ≡ length floats₀)
-    × (climbedFrom (taking s item x) left (some i) (treeOf s n floats links) ≡ alongPath (taking s item x) leaf (treeOf s n floats₀ links))
+    × (climbedFrom (itemOf s form x .taken) left (some i) (treeOf s n floats links) ≡ alongPath (itemOf s form x .taken) leaf (treeOf s n floats₀ links))
 
 abbrev μ-loop : tie.MeasureT-loop
-μ-loop s n floats₀ links leaf item x i₀ left₀ floats i left = left
+μ-loop s n floats₀ links leaf form x i₀ left₀ floats i left = left
 
 -- the start, from the loop, and the loop, from the last answer of a turn
 abbrev start : tie.At-loop Inv-loop μ-loop → tie.Start Inv-loop μ-loop

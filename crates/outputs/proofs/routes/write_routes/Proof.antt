@@ -6,17 +6,17 @@ use native.Mathlib.Omega.{arith}
 use borrow.Author.Needs.{needs}
 use lib.ListN.{length, getD, set, length-set}
 use Rattle.outputs.specs.Written.{front-copied, told-at, told-count}
-use Rattle.rules.specs.Refit.{route}
 use Rattle.rules.specs.Lists.{rowsOf}
 use Rattle.rules.specs.Slices.{treeOf}
 use Rattle.arena.specs.Trees.{caps-small}
 use Rattle.stretch.specs.Stretches.{copiedTo, copied-turn}
 use Rattle.rows.specs.Rows.{row-in, row-wide}
 use Rattle.outputs.proofs.routes.write_routes.Statement.{statement}
+use Rattle.rules.specs.Route.{greedy}
 use Rattle.outputs.proofs.routes.write_routes.Tie as tie
 
 abbrev Inv-loop : tie.InvT-loop
-Inv-loop s n floats links rows count out₀ k₀ out k = (k ≤ count) × (length out ≡ length out₀) × (out ≡ copiedTo k (map (route s (treeOf s n floats links)) (rowsOf count (s .dim) rows)) out₀)
+Inv-loop s n floats links rows count out₀ k₀ out k = (k ≤ count) × (length out ≡ length out₀) × (out ≡ copiedTo k (map (greedy s (treeOf s n floats links)) (rowsOf count (s .dim) rows)) out₀)
 
 abbrev μ-loop : tie.MeasureT-loop
 μ-loop s n floats links rows count out₀ k₀ out k = count - k
@@ -54,7 +54,7 @@ loop-again c =
     let loop = c .before .before .before .loop in
     let more = c .before .before .loop-test .taken in
     let few = start .pre .0 .3 in
-    let told = route (a .s) (treeOf (a .s) (a .n) (a .floats .now) (a .links .now)) in
+    let told = greedy (a .s) (treeOf (a .s) (a .n) (a .floats .now) (a .links .now)) in
     let new = map told (rowsOf (a .count) (a .s .dim) (a .rows .now)) in
     let many = told-count (a .s) told (a .count) (a .rows .now) in
     let here : c .route .result ≡ getD new (loop .k) 0 =
@@ -71,7 +71,7 @@ returns : tie.Need-returns Inv-loop μ-loop
 returns c =
     let a = c .before .before .before .before .before .before .args in
     let loop = c .before .loop in
-    let told = route (a .s) (treeOf (a .s) (a .n) (a .floats .now) (a .links .now)) in
+    let told = greedy (a .s) (treeOf (a .s) (a .n) (a .floats .now) (a .links .now)) in
     let many = told-count (a .s) told (a .count) (a .rows .now) in
     let few = loop .inv .0 in
     let rest = c .loop-test .left in

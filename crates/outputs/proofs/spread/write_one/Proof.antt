@@ -6,13 +6,13 @@ use native.Mathlib.Omega.{arith}
 use borrow.Author.Needs.{needs}
 use lib.ListN.{length}
 use Rattle.outputs.specs.Spread.{spread-written}
-use Rattle.rules.specs.Refit.{spreadOf}
 use Rattle.kernels.specs.Channels.{at, upTo}
 use Rattle.kernels.specs.Laws.{length-upTo}
 use Rattle.feature.specs.Shape.{Shaped}
 use Rattle.arena.specs.Trees.{entry-shaped}
 use native.Mathlib.Numerals.{add-one}
 use Rattle.outputs.proofs.spread.write_one.Statement.{statement}
+use Rattle.rules.specs.Spread.{spreadOf}
 use Rattle.outputs.proofs.spread.write_one.Tie as tie
 
 abbrev Inv-loop : tie.InvT-loop

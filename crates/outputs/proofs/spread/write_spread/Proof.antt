@@ -7,7 +7,6 @@ use borrow.Author.Needs.{needs}
 use lib.ListN.{length, drop, length-take, length-drop}
 use Rattle.outputs.specs.Spread.{spread-long}
 use Rattle.outputs.specs.Written.{pieceOf, piece-turn, pieces-all}
-use Rattle.rules.specs.Refit.{spreadOf}
 use Rattle.rules.specs.Lists.{joined, table}
 use Rattle.rules.specs.Slices.{treeOf}
 use Rattle.rules.specs.Tree.{entryAt}
@@ -16,6 +15,7 @@ use Rattle.stretch.specs.Stretches.{putStretch, room}
 use native.Mathlib.Nat.{zero-mul}
 use borrow.Rule.Slice.PartMut.{same-len-mid}
 use Rattle.outputs.proofs.spread.write_spread.Statement.{statement}
+use Rattle.rules.specs.Spread.{spreadOf}
 use Rattle.outputs.proofs.spread.write_spread.Tie as tie
 
 abbrev Inv-loop : tie.InvT-loop

@@ -1,9 +1,9 @@
--- `descent::item::to_node` meets its contract: case by case.
+-- `descent::form::to_node` meets its contract: case by case.
 use mathlib.Core.Path.{_∙_}
 use borrow.Author.Needs.{needs}
-use Rattle.descent.specs.Items.{distanceTo, row-fits, slot-fits}
-use Rattle.descent.proofs.item.to_node.Statement.{statement}
-use Rattle.descent.proofs.item.to_node.Tie as tie
+use Rattle.descent.specs.Forms.{itemOf, row-fits, slot-fits}
+use Rattle.descent.proofs.form.to_node.Statement.{statement}
+use Rattle.descent.proofs.form.to_node.Tie as tie
 
 to-row-requires : tie.Need-to-row-requires
 to-row-requires c κs =
@@ -16,11 +16,11 @@ to-slot-requires c κs =
     (start .pre .0, start .pre .1, slot-fits _ _ _ (c .enum-told2 .given .1) (start .pre .2))
 
 returns : tie.Need-returns
-unfolding distanceTo
+unfolding itemOf
 returns c = λ ls. c .to-row .ensures ls ∙ rw (c .before .enum-told .given .1)
 
 returns-2 : tie.Need-returns-2
-unfolding distanceTo
+unfolding itemOf
 returns-2 c = λ ls. c .to-slot .ensures ls ∙ rw (c .before .enum-told2 .given .1)
 
 pub to-node-spec : {M : Type 1} → statement M

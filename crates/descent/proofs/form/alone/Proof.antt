@@ -1,9 +1,9 @@
--- `descent::item::alone` meets its contract: case by case.
+-- `descent::form::alone` meets its contract: case by case.
 use mathlib.Core.Path.{_∙_}
 use borrow.Author.Needs.{needs}
-use Rattle.descent.specs.Items.{alone, row-fits, slot-fits}
-use Rattle.descent.proofs.item.alone.Statement.{statement}
-use Rattle.descent.proofs.item.alone.Tie as tie
+use Rattle.descent.specs.Forms.{itemOf, row-fits, slot-fits}
+use Rattle.descent.proofs.form.alone.Statement.{statement}
+use Rattle.descent.proofs.form.alone.Tie as tie
 
 push-requires : tie.Need-push-requires
 push-requires c κs =
@@ -17,11 +17,11 @@ load-requires c κs =
     (start .pre .0, slot-fits _ _ _ (c .enum-told2 .given .1) (start .pre .1))
 
 returns : tie.Need-returns
-unfolding alone
+unfolding itemOf
 returns c = c .push .ensures ∙ rw (c .before .empty .ensures, c .before .before .enum-told .given .1)
 
 returns-2 : tie.Need-returns-2
-unfolding alone
+unfolding itemOf
 returns-2 c = c .load .ensures ∙ rw (c .before .enum-told2 .given .1)
 
 pub alone-spec : {M : Type 1} → statement M

@@ -1,10 +1,10 @@
--- `descent::item::feed` meets its contract: case by case.
+-- `descent::form::feed` meets its contract: case by case.
 use mathlib.Core.Path.{_∙_}
 use borrow.Author.Needs.{needs}
 use Rattle.rules.specs.Held.{in-shaped}
-use Rattle.descent.specs.Items.{taking, row-fits, slot-fits}
-use Rattle.descent.proofs.item.feed.Statement.{statement}
-use Rattle.descent.proofs.item.feed.Tie as tie
+use Rattle.descent.specs.Forms.{itemOf, row-fits, slot-fits}
+use Rattle.descent.proofs.form.feed.Statement.{statement}
+use Rattle.descent.proofs.form.feed.Tie as tie
 
 push-requires : tie.Need-push-requires
 push-requires c κs =
@@ -22,11 +22,11 @@ merge-requires c κs =
     (start .pre .0, start .pre .1, rw (c .load .ensures) (in-shaped (start .args .s) (start .pre .0 .sized) (start .args .x .now)))
 
 returns : tie.Need-returns
-unfolding taking
+unfolding itemOf
 returns c = λ ls. c .before .before .push .ensures ls ∙ rw (c .before .before .before .before .enum-told .given .1)
 
 returns-2 : tie.Need-returns-2
-unfolding taking
+unfolding itemOf
 returns-2 c =
     λ ls. c .before .before .merge .ensures ls
     ∙ rw (c .before .before .before .load .ensures, c .before .before .before .before .before .enum-told2 .given .1)

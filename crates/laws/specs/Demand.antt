@@ -9,7 +9,6 @@ use mathlib.Core.Option.{Option, none, some}
 use lib.ListN.{length, getD}
 use lib.Dec.{leb, ltb, eqb}
 use lib.Ieee.{Float}
-use Rattle.binary64.specs.Operators.{f0}
 use Rattle.binary64.specs.Whole.{whole, most}
 use Rattle.feature.specs.declared.Summary.{Summary}
 use Rattle.feature.specs.Summaries.{blank}
@@ -27,8 +26,8 @@ use Rattle.rules.specs.Lists.{changeAt, snoc, occurs, every, rowsOf}
 use Rattle.rules.specs.Tree.{push, merge, distTo, Tree, nodeAt, entryAt, withEntries, onRunning}
 use Rattle.rules.specs.Descent.{searched, leafFor, alongPath}
 use Rattle.rules.specs.Insert.{grown, absorbs, rowItem, Item}
-use Rattle.rules.specs.Pairs.{sorted, siblings, cousins}
-use Rattle.rules.specs.Rebuild.{Merging, mergeOne, bothAlive, mergeAll, target, renumber, dropped, withMerges}
+use Rattle.rules.specs.Pairs.{sorted}
+use Rattle.rules.specs.Rebuild.{Merging, mergeOne, bothAlive, target, renumber, pairsOf, across, mergeStart, mergesIn, thinned, dropped}
 use Rattle.rules.specs.Reinsert.{collected, reinserted}
 use Rattle.rules.specs.Refit.{reaccumulated, used, anyHollow}
 use Rattle.rules.specs.Check.{checked, leafLists}
@@ -67,23 +66,13 @@ unfoldable pub reinsertedTo : Settings → Tree → ℕ → ℕ
 reinsertedTo s t c = placeIn (reverse (collected t (length (t .nodes)) (t .root ∷ []))) c
 
 unfoldable pub rebalancedTo : Settings → Bool → Tree → ℕ → ℕ
-rebalancedTo s across t c = cond (across || leb (s .«max_leaves») (t .running .merged)) (reinsertedTo s (onRunning (withMerged 0) t) c) c
-
-unfoldable pub compactedTo : Settings → Bool → Tree → Merging → ℕ → ℕ
-compactedTo s across t m c = cond (eqb (m .count) 0) c (rebalancedTo s across (dropped (m .alive) (withMerges t m)) (renumber (m .alive) c))
-
-unfoldable pub mergedByTo : Settings → Bool → List Pair → Tree → ℕ → ℕ
-mergedByTo s across ps t c =
-    let k = length (t .entries) - target (s .«max_leaves») in
-    let m : Merging = record { entries = t .entries; alive = map (λ _. true) (t .entries); count = 0; widest = f0 } in
-    compactedTo s across t (mergeAll s k (sorted ps) m) (mergedInto s k (sorted ps) m c)
-
-unfoldable pub mergedWithTo : Settings → List Pair → Tree → ℕ → ℕ
-mergedWithTo s [] t c = mergedByTo s true (cousins s t (t .nodes)) t c
-mergedWithTo s (p ∷ ps) t c = mergedByTo s false (p ∷ ps) t c
+rebalancedTo s far t c = cond (far || leb (s .«max_leaves») (t .running .merged)) (reinsertedTo s (onRunning (withMerged 0) t) c) c
 
 unfoldable pub rebuiltTo : Settings → Tree → ℕ → ℕ
-rebuiltTo s t c = mergedWithTo s (siblings s t (t .nodes)) t c
+rebuiltTo s t c =
+    let m = mergesIn s t in
+    let d = mergedInto s (length (t .entries) - target (s .«max_leaves»)) (sorted (pairsOf s t)) (mergeStart t) c in
+    cond (eqb (m .count) 0) d (rebalancedTo s (across s t) (thinned t m) (renumber (m .alive) d))
 
 -- the account after a row, and after rows
 unfoldable pub ownersIn : Settings → List Float → Tree → List ℕ → List ℕ

@@ -5,6 +5,7 @@ pub mod Cousins
 pub mod Drop
 pub mod Refold
 pub mod Reinsert
+pub mod Walk
 pub mod Rebuilt
 pub mod Order
 pub mod Restored

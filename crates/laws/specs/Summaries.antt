@@ -1,12 +1,11 @@
 -- What push and merge keep of a summary, and an empty one has, every step keeps of all summaries in a tree. So their shape is kept.
 use Prim.Native.Nat.{ℕ, zero, suc, _/_}
-use mathlib.Core.Bool.{Bool, true, false, not, _&&_, _||_}
+use mathlib.Core.Bool.{Bool, true, false, not, _&&_}
 use mathlib.Core.List.{List, [], _∷_, map, foldl, reverse}
 use mathlib.Core.Option.{Option, none, some}
 use lib.Dec.{leb, ltb, eqb}
 use lib.ListN.{length, getD, set, take, drop}
 use lib.Ieee.{Float}
-use Rattle.binary64.specs.Operators.{f0}
 use Rattle.feature.specs.declared.Summary.{Summary}
 use Rattle.feature.specs.Summaries.{blank}
 use Rattle.head.specs.declared.Settings.{Settings}
@@ -20,16 +19,17 @@ use Rattle.rules.specs.Split.{gathered, stays, adopted, half, parted, split, cr
 use Rattle.rules.specs.Insert.{begun, absorbed, absorbs, absorbedOrBegun, placed, grownAt, grown, rowItem}
 use Rattle.rules.specs.Reinsert.{collected, cleared, replaced, replacedAll, reinserted}
 use Rattle.rules.specs.Refold.{foldBalanced, refoldOne, refoldAll, refolded, preorder}
-use Rattle.rules.specs.Pairs.{siblings, cousins, sorted}
+use Rattle.rules.specs.Pairs.{sorted}
 use Rattle.rules.specs.declared.Pair.{Pair}
-use Rattle.rules.specs.Rebuild.{Merging, mergeOne, bothAlive, mergeAll, pruned, dropped, withMerges, rebalanced}
-use Rattle.rules.specs.Rebuild.{compacted, mergedBy, mergedWith, counted, rebuilt}
+use Rattle.rules.specs.Rebuild.{Merging, mergeOne, bothAlive, mergeAll, pruned, dropped, withMerges, pairsOf, mergeStart, mergesIn, thinned}
+use Rattle.rules.specs.Rebuild.{counted, rebuilt}
 use Rattle.rules.specs.Refit.{poured, reaccumulated, used, anyHollow, refitRounds, refitted}
 use Rattle.counting.specs.Count.{either}
 use Rattle.counting.specs.All.{All, all-map, all-at, all-change, all-back, all-take, all-keep, all-drop, all-append, all-set}
 use Rattle.head.specs.Counting.{withMerged}
 use Rattle.rules.specs.Route.{Route}
 use Rattle.rules.specs.Rows.{inserted, insertedAll}
+use Rattle.laws.specs.Rebuilding.Walk.{rebuilt-walk}
 
 abbrev OfNode : (Summary → Type 0) → Node → Type 0
 OfNode Q n = Q (n .summary)
@@ -227,31 +227,16 @@ module _ (s : Settings) (Q : Summary → Type 0) (none-q : Q blank) (push-q : (x
       pruned-q [] h = tt
       pruned-q (n ∷ ns) h = (unfold pruned listing in h .0, pruned-q ns (h .1))
 
-  rebalanced-q : (across : Bool) (t : Tree) → Throughout Q t → Throughout Q (rebalanced s across t)
-  unfolding rebalanced onRunning
-  rebalanced-q across t h =
-      either (Throughout Q) (across || leb (s .«max_leaves») (t .running .merged)) (reinserted s (onRunning (withMerged 0) t)) t
-      (reinserted-q (onRunning (withMerged 0) t) (record { nodes = h .nodes; entries = h .entries })) h
-
-  by-q : (across : Bool) (ps : List Pair) (t : Tree) → Throughout Q t → Throughout Q (mergedBy s across ps t)
-  unfolding mergedBy compacted withMerges onRunning withEntries
-  by-q across ps t h =
-      let m = mergeAll s _ (sorted ps) (record { entries = t .entries; alive = map (λ _. true) (t .entries); count = 0; widest = f0 }) in
-      either (Throughout Q) (eqb (m .count) 0) t (rebalanced s across (dropped (m .alive) (withMerges t m))) h
-      (rebalanced-q across (dropped (m .alive) (withMerges t m))
-      (dropped-q (m .alive) (withMerges t m) (record { nodes = h .nodes; entries = merges-q _ (sorted ps) _ (h .entries) })))
-
-  with-q : (ps : List Pair) (t : Tree) → Throughout Q t → Throughout Q (mergedWith s ps t)
-  unfolding mergedWith
-  with-q [] t h = by-q true (cousins s t (t .nodes)) t h
-  with-q (p ∷ ps) t h = by-q false (p ∷ ps) t h
-
   rebuilt-q : (t : Tree) → Throughout Q t → Throughout Q (rebuilt s t)
-  unfolding rebuilt counted onRunning
   rebuilt-q t h =
-      let v = mergedWith s (siblings s t (t .nodes)) t in
-      let r = refolded-q v (with-q (siblings s t (t .nodes)) t h) in
-      record { nodes = r .nodes; entries = r .entries }
+      rebuilt-walk s t (λ _ u. Throughout Q u) (λ _. h) (λ _. thin)
+      (reinserted-q (onRunning (withMerged 0) (thinned t (mergesIn s t))) (unfold onRunning in (record { nodes = thin .nodes; entries = thin .entries })))
+      (λ _ u q. refolded-q u q) (λ _ u q. unfold counted onRunning in (record { nodes = q .nodes; entries = q .entries }))
+    where
+      thin : Throughout Q (thinned t (mergesIn s t))
+      thin =
+          dropped-q (mergesIn s t .alive) (withMerges t (mergesIn s t)) (unfold withMerges onRunning withEntries in
+          (record { nodes = h .nodes; entries = merges-q _ (sorted (pairsOf s t)) (mergeStart t) (h .entries) }))
 
   pub insertedAll-q : (xs : List (List Float)) (t : Tree) → Throughout Q t → Throughout Q (insertedAll s xs t)
   unfolding insertedAll inserted

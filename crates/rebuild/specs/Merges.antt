@@ -1,7 +1,7 @@
 -- All merges of a rebuild, from the pairs in scratch.
 use Prim.Native.Nat.{ℕ, zero, suc, _-_, _≤_}
 use mathlib.Core.Path.{_≡_, refl, sym, ap, ap₂, _∙_, subst}
-use mathlib.Core.Bool.{Bool, true, false}
+use mathlib.Core.Bool.{Bool, true, false, cond}
 use mathlib.Core.List.{List, [], _∷_}
 use native.Mathlib.Omega.{arith}
 use borrow.Author.Tests.{ne-eqb}
@@ -15,11 +15,10 @@ use Rattle.rules.specs.declared.Pair.{Pair}
 use Rattle.rules.specs.Tree.{Tree, withEntries}
 use Rattle.rules.specs.Slices.{treeOf}
 use Rattle.rules.specs.Pairs.{sorted}
-use Rattle.rules.specs.Rebuild.{Merging, target, mergeOne, bothAlive, mergeAll, dropped, withMerges, rebalanced, compacted, mergedBy}
+use Rattle.rules.specs.Rebuild.{Merging, target, mergeOne, bothAlive, mergeAll, dropped, withMerges, thinned, rebalanced, mergeStart}
 use Rattle.laws.specs.Rebuilding.Merge.{Every}
 use Rattle.laws.specs.Rebuilding.Pairs.{every-sorted}
 use Rattle.laws.specs.Rebuilding.Cousins.{FarPair}
-use Rattle.laws.specs.Rebuilding.Rebuilt.{mergeStart}
 use Rattle.scratch.specs.Stored.{pairsIn}
 use Rattle.scratch.specs.Flags.{aliveIn, PairsBelow, SamePairs, same-pairs}
 use Rattle.arena.specs.Trees.{count-entries}
@@ -30,6 +29,10 @@ use Rattle.rebuild.specs.Counted.{mergedCounts}
 -- what the rules make of the pairs ps
 unfoldable pub allMerges : Settings → List Pair → Tree → Merging
 allMerges s ps t = mergeAll s (length (t .entries) - target (s .«max_leaves»)) (sorted ps) (mergeStart t)
+
+-- and of the tree, where far says whether they are cousins
+unfoldable pub compactedBy : Settings → Bool → List Pair → Tree → Tree
+compactedBy s far ps t = let m = allMerges s ps t in cond (eqb (m .count) 0) t (rebalanced s far (thinned t m))
 
 -- floats, flags and the answer say so, whatever the links
 unfoldable pub AllMerged : Settings → Counters → List Pair → Merges → List Float → List Float → List ℕ → Type 0
@@ -89,9 +92,9 @@ module _ (s : Settings) (n : Counters) (ps : List Pair) (r : Merges) (fs gs : Li
   unfolding AllMerged
   ended = h ls
 
-  pub merged-none : (across : Bool) → r .count ≡ 0 → treeOf s n gs ls ≡ mergedBy s across ps (treeOf s n fs ls)
-  unfolding mergedBy compacted allMerges withEntries
-  merged-none across z =
+  pub merged-none : (far : Bool) → r .count ≡ 0 → treeOf s n gs ls ≡ compactedBy s far ps (treeOf s n fs ls)
+  unfolding compactedBy allMerges withEntries
+  merged-none far z =
       let t = treeOf s n fs ls in
       let none : allMerges s ps t .count ≡ 0 = sym (ended .count) ∙ z in
       ended .tree ∙ ap (λ es. withEntries es t) (none-merged s (length (t .entries) - target (s .«max_leaves»)) (sorted ps) (mergeStart t) none) ∙ rw none
@@ -100,10 +103,10 @@ module _ (s : Settings) (n : Counters) (ps : List Pair) (r : Merges) (fs gs : Li
   unfolding mergedCounts
   merges-made = merges-counted s n fs gs ls (aliveIn ms (n .entries)) r (allMerges s ps (treeOf s n fs ls)) ended
 
-  pub merged-some : (d : Counters) (across : Bool) → d ≡ mergedCounts r n → ¬ (r .count ≡ 0)
-      → rebalanced s across (dropped (aliveIn ms (d .entries)) (treeOf s d gs ls)) ≡ mergedBy s across ps (treeOf s n fs ls)
-  unfolding mergedBy compacted allMerges mergedCounts countRunning
-  merged-some d across e z =
+  pub merged-some : (d : Counters) (far : Bool) → d ≡ mergedCounts r n → ¬ (r .count ≡ 0)
+      → rebalanced s far (dropped (aliveIn ms (d .entries)) (treeOf s d gs ls)) ≡ compactedBy s far ps (treeOf s n fs ls)
+  unfolding compactedBy allMerges mergedCounts countRunning
+  merged-some d far e z =
       let t = treeOf s n fs ls in
       let some : eqb (allMerges s ps t .count) 0 ≡ false = ne-eqb (allMerges s ps t .count) 0 (λ e. z (ended .count ∙ e)) in
-      rw e (ap (rebalanced s across) (ap₂ dropped (ended .alive) merges-made) ∙ rw some)
+      rw e (ap (rebalanced s far) (ap₂ dropped (ended .alive) merges-made) ∙ rw some)

@@ -1,5 +1,5 @@
 -- What a rebuild asks of the tree and of scratch, and what its parts then have.
-use Prim.Native.Nat.{ℕ, _+_, _≤_, _<_}
+use Prim.Native.Nat.{ℕ, _+_, _≤_, _<_, _-_}
 use mathlib.Core.Path.{_≡_, refl, sym, ap, ap₂, _∙_, subst}
 use mathlib.Core.Bool.{Bool, true, false}
 use mathlib.Core.List.{List, [], _∷_}
@@ -15,15 +15,15 @@ use Rattle.head.specs.Counting.{countRunning, withMerged}
 use Rattle.rules.specs.declared.Pair.{Pair}
 use Rattle.rules.specs.Tree.{Tree, onRunning}
 use Rattle.rules.specs.Slices.{treeOf}
-use Rattle.rules.specs.Pairs.{siblings, cousins}
+use Rattle.rules.specs.Pairs.{siblings, cousins, sorted}
 use Rattle.rules.specs.Refold.{refolded}
-use Rattle.rules.specs.Rebuild.{Merging, dropped, mergedBy, mergedWith, counted, rebuilt}
+use Rattle.rules.specs.Rebuild.{Merging, target, mergeAll, dropped, mergeStart, thinned, pairsFrom, noneNear, across, compacted, counted, rebuilt}
 use Rattle.laws.specs.Invariant.Sound.{Settled, caps-of}
 use Rattle.laws.specs.Inserting.Grown.{Whole}
 use Rattle.laws.specs.Rebuilding.Merge.{Every, Merged}
 use Rattle.laws.specs.Rebuilding.Pairs.{NearPair, siblings-all, every-map}
 use Rattle.laws.specs.Rebuilding.Cousins.{FarPair, cousins-far}
-use Rattle.laws.specs.Rebuilding.Rebuilt.{mergesOf, merges-merged, near-far, mergedWith-fewer}
+use Rattle.laws.specs.Rebuilding.Rebuilt.{merges-far, near-far, compacted-whole}
 use Rattle.laws.specs.ForCode.{Framed, Standing, settled-framed, settled-standing}
 use Rattle.scratch.specs.Stored.{pairsIn, length-pairs}
 use Rattle.scratch.specs.Flags.{aliveIn}
@@ -31,9 +31,9 @@ use Rattle.merging.specs.Pruning.{LeavesIn, leaves-framed, leaves-same}
 use Rattle.merging.specs.declared.merges.Merges.{Merges}
 use Rattle.refold.specs.Refolding.{Filled}
 use Rattle.reinsert.specs.Whole.{Reinsertable}
-use Rattle.reinsert.specs.Thinned.{thinned, merged-reinsertable}
+use Rattle.reinsert.specs.Thinned.{merged-reinsertable}
 use Rattle.rebuild.specs.Counted.{mergedCounts, countedUp, counted-is}
-use Rattle.rebuild.specs.Merges.{AllMerged, allMerges, ended, merges-made}
+use Rattle.rebuild.specs.Merges.{AllMerged, allMerges, ended, merges-made, compactedBy}
 use Rattle.laws.specs.Running.{Below}
 
 -- ---- what is asked
@@ -76,10 +76,10 @@ module _ (s : Settings) (t : Tree) (w : Rebuildable s t) where
 
   module _ (ps : List Pair) (far : Every (FarPair (length (t .entries))) ps) where
     abbrev pub merges : Merging
-    merges = mergesOf settled (w .whole .2) ps
+    merges = mergeAll s (length (t .entries) - target (s .«max_leaves»)) (sorted ps) (mergeStart t)
 
     done : Merged s (length (t .entries)) (w .rows) merges
-    done = merges-merged settled (w .whole .2) ps far
+    done = merges-far settled (w .whole .2) ps far
 
     some : 0 < length (t .entries)
     some = let q = w .more in omega arith
@@ -88,39 +88,50 @@ module _ (s : Settings) (t : Tree) (w : Rebuildable s t) where
     merges-few = let q = done .counted in omega arith
 
     -- the tree without those merged away can be placed again
-    pub left-again : Reinsertable s (thinned s t merges)
+    pub left-again : Reinsertable s (onRunning (withMerged 0) (thinned t merges))
     left-again = merged-reinsertable s t merges settled (w .whole .2) done some (w .few)
 
   -- ---- when all merges are done
 
-  pub merged-standing : Sized s → Standing s (mergedWith s (siblings s t (t .nodes)) t) × Filled (mergedWith s (siblings s t (t .nodes)) t)
+  pub merged-standing : Sized s → Standing s (compacted s t) × Filled (compacted s t)
   unfolding Filled
   merged-standing z =
-      let f = mergedWith-fewer settled (w .whole .2) (caps-of z) (z .most-some) (w .more) in
+      let f = compacted-whole s t (w .rows) (caps-of z) (z .most-some) (w .whole) (w .more) in
       let r = f .0 in
       let few = w .few in
       let fewer = f .1 in
-      (settled-standing s (mergedWith s (siblings s t (t .nodes)) t) (r .0) (w .rows) (r .1) (omega arith), λ i l. r .1 .links .filled i l)
+      (settled-standing s (compacted s t) (r .0) (w .rows) (r .1) (omega arith), λ i l. r .1 .links .filled i l)
 
   -- refolded and counted
   pub rebuilt-is : (m d : Counters) (fs : List Float) (ls : List ℕ) → d ≡ countedUp m
-      → treeOf s m fs ls ≡ refolded s (mergedWith s (siblings s t (t .nodes)) t) → treeOf s d fs ls ≡ rebuilt s t
+      → treeOf s m fs ls ≡ refolded s (compacted s t) → treeOf s d fs ls ≡ rebuilt s t
   unfolding rebuilt
   rebuilt-is m d fs ls e q = ap (λ r. treeOf s r fs ls) e ∙ counted-is s fs ls m ∙ ap counted q
 
 -- ---- pairs of siblings, or of cousins
 
-module _ (s : Settings) (t : Tree) (cs : List Float) (ns : List ℕ) where
-  pub by-siblings : (k : ℕ) (ps : List Pair) → pairsIn cs ns k ≡ ps → 0 < k → mergedBy s false (pairsIn cs ns k) t ≡ mergedWith s ps t
-  unfolding mergedWith
-  by-siblings k [] e h = let none = sym (length-pairs cs ns k) ∙ ap length e in absurd (omega arith)
-  by-siblings k (p ∷ ps) e h = ap (λ ps. mergedBy s false ps t) e
+module _ (s : Settings) (t : Tree) (cs : List Float) (ns : List ℕ) (k : ℕ) where
+  -- by the siblings that there are
+  abbrev From : List Pair → Tree
+  From ps = compactedBy s (noneNear ps) (pairsFrom s t ps) t
 
-  pub by-cousins : (k : ℕ) (ps : List Pair) → pairsIn cs ns k ≡ ps → k ≤ 0
-      → (qs : List Pair) → qs ≡ cousins s t (t .nodes) → mergedBy s true qs t ≡ mergedWith s ps t
-  unfolding mergedWith
-  by-cousins k [] e h qs q = ap (λ ps. mergedBy s true ps t) q
-  by-cousins k (p ∷ ps) e h qs q = let some = sym (length-pairs cs ns k) ∙ ap length e in absurd (omega arith)
+  all-is : From (siblings s t (t .nodes)) ≡ compacted s t
+  unfolding compactedBy compacted allMerges across
+  all-is = refl
+
+  pub by-siblings : pairsIn cs ns k ≡ siblings s t (t .nodes) → 0 < k → compactedBy s false (pairsIn cs ns k) t ≡ compacted s t
+  by-siblings e h = go (siblings s t (t .nodes)) e ∙ all-is
+    where
+      go : (ps : List Pair) → pairsIn cs ns k ≡ ps → compactedBy s false (pairsIn cs ns k) t ≡ From ps
+      go [] e = let none = sym (length-pairs cs ns k) ∙ ap length e in absurd (omega arith)
+      go (p ∷ ps) e = unfold noneNear pairsFrom in ap (λ ps. compactedBy s false ps t) e
+
+  pub by-cousins : pairsIn cs ns k ≡ siblings s t (t .nodes) → k ≤ 0 → (qs : List Pair) → qs ≡ cousins s t (t .nodes) → compactedBy s true qs t ≡ compacted s t
+  by-cousins e h qs q = go (siblings s t (t .nodes)) e ∙ all-is
+    where
+      go : (ps : List Pair) → pairsIn cs ns k ≡ ps → compactedBy s true qs t ≡ From ps
+      go [] e = unfold noneNear pairsFrom in ap (λ ps. compactedBy s true ps t) q
+      go (p ∷ ps) e = let some = sym (length-pairs cs ns k) ∙ ap length e in absurd (omega arith)
 
 -- ---- the tree after its merges
 

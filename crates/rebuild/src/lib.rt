@@ -8,8 +8,7 @@ ghost use lib.ListN.{length};
 ghost use Rattle.head.specs.Limits.{Sized};
 ghost use Rattle.head.specs.Sizes.{entryCap};
 ghost use Rattle.rules.specs.Slices.{treeOf};
-ghost use Rattle.rules.specs.Pairs.{siblings};
-ghost use Rattle.rules.specs.Rebuild.{target, dropped, rebalanced, mergedBy, mergedWith, rebuilt};
+ghost use Rattle.rules.specs.Rebuild.{target, dropped, rebalanced, compacted, rebuilt};
 ghost use Rattle.laws.specs.Rebuilding.Merge.{Every};
 ghost use Rattle.laws.specs.Rebuilding.Cousins.{FarPair};
 ghost use Rattle.arena.specs.Trees.{Floats, Links};
@@ -17,7 +16,7 @@ ghost use Rattle.scratch.specs.Stored.{Scratch, pairsIn};
 ghost use Rattle.scratch.specs.Flags.{aliveIn};
 ghost use Rattle.rebuild.specs.Counted.{mergedCounts, countedUp};
 ghost use Rattle.rebuild.specs.Rebuilding.{Compactable, Mergeable, Rebuildable};
-ghost use Rattle.rebuild.specs.Merges.{AllMerged};
+ghost use Rattle.rebuild.specs.Merges.{AllMerged, compactedBy};
 use head::Counters;
 use head::Settings;
 use merging::dropping::drop_merged;
@@ -118,7 +117,7 @@ fn merge_by(
     ensures { λ r. ⌜ Floats s r (length (now (floats .entry))) × Links s r (length (now (links .entry))) ⌝ }
     ensures { λ r. ⌜
         treeOf s r (now (floats .exit)) (now (links .exit))
-        ≡ mergedBy s across (pairsIn (now (scratch .entry)) (now (numbers .entry)) pairs) (treeOf s n (now (floats .entry)) (now (links .entry))) ⌝ }
+        ≡ compactedBy s across (pairsIn (now (scratch .entry)) (now (numbers .entry)) pairs) (treeOf s n (now (floats .entry)) (now (links .entry))) ⌝ }
 {
     let w = merge_cheapest(s, n, floats, scratch, numbers, pairs);
     if w.count == 0 {
@@ -141,8 +140,7 @@ fn merge(
     ensures { λ r. ⌜ Floats s r (length (now (floats .entry))) × Links s r (length (now (links .entry))) ⌝ }
     ensures { λ r. ⌜
         treeOf s r (now (floats .exit)) (now (links .exit))
-        ≡ mergedWith s (siblings s (treeOf s n (now (floats .entry)) (now (links .entry))) (treeOf s n (now (floats .entry)) (now (links .entry)) .nodes))
-        (treeOf s n (now (floats .entry)) (now (links .entry))) ⌝ }
+        ≡ compacted s (treeOf s n (now (floats .entry)) (now (links .entry))) ⌝ }
 {
     let near = sibling_pairs(s, n, floats, links, scratch, numbers);
     if near > 0 {

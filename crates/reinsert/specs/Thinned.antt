@@ -8,7 +8,7 @@ use lib.ListN.{length, getD, length-map, List·getD-map}
 use Rattle.head.specs.declared.Settings.{Settings}
 use Rattle.head.specs.Sizes.{entryCap}
 use Rattle.rules.specs.Tree.{Tree, nodeAt, blankNode, withNodes, withEntries, onRunning, listing}
-use Rattle.rules.specs.Rebuild.{Merging, keepNumbers, pruned, dropped, withMerges}
+use Rattle.rules.specs.Rebuild.{Merging, keepNumbers, pruned, dropped, withMerges, thinned}
 use Rattle.counting.specs.Sums.{sumTo, sum-same}
 use Rattle.laws.specs.Invariant.Sound.{Settled}
 use Rattle.laws.specs.Inserting.Grown.{Counted}
@@ -58,26 +58,26 @@ module _ (s : Settings) (t u : Tree) (bs : List Bool) (nodes : u .nodes ≡ map 
 -- ---- after merges
 
 module _ (s : Settings) (t : Tree) (m : Merging) where
-  abbrev pub thinned : Tree
-  thinned = onRunning (withMerged 0) (dropped (m .alive) (withMerges t m))
+  abbrev u : Tree
+  u = onRunning (withMerged 0) (thinned t m)
 
-  same-nodes : thinned .nodes ≡ map (pruned (m .alive)) (t .nodes)
+  same-nodes : u .nodes ≡ map (pruned (m .alive)) (t .nodes)
   unfolding onRunning dropped withMerges withEntries withNodes
   same-nodes = refl
 
-  same-root : thinned .root ≡ t .root
+  same-root : u .root ≡ t .root
   unfolding onRunning dropped withMerges withEntries withNodes
   same-root = refl
 
   module _ {R : ℕ → ℕ} {total : ℕ} (g : Settled s t R total) (n : Counted t total) (d : Merged s (length (t .entries)) total m)
       (some : 0 < length (t .entries)) (few : length (t .entries) ≤ entryCap s) where
-    pub merged-reinsertable : Reinsertable s thinned
+    pub merged-reinsertable : Reinsertable s u
     merged-reinsertable =
         let long = length-w g n d some in
         let counts = d .counted in
         record {
           standing =
-              pruned-standing s t thinned (m .alive) same-nodes same-root (settled-standing s t R total g few) (record { R = R; frame = frame-w g n d some })
+              pruned-standing s t u (m .alive) same-nodes same-root (settled-standing s t R total g few) (record { R = R; frame = frame-w g n d some })
               (omega arith);
           total = total;
           rows = rows-w g n d some;

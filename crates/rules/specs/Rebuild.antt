@@ -86,7 +86,30 @@ pruned alive n = listing (cond (n .leaf) (keepNumbers alive (n .list)) (n .list)
 unfoldable pub dropped : List Bool → Tree → Tree
 dropped alive t = withEntries (keep alive (t .entries)) (withNodes (map (pruned alive) (t .nodes)) t)
 
--- ---- the rebuild
+-- ---- the rebuild, step by step: pairs, merges, drop, placed again where due, refold, count
+
+-- cousins only if no leaf has two entries
+unfoldable pub pairsFrom : Settings → Tree → List Pair → List Pair
+pairsFrom s t [] = cousins s t (t .nodes)
+pairsFrom s t (p ∷ ps) = p ∷ ps
+
+abbrev pub pairsOf : Settings → Tree → List Pair
+pairsOf s t = pairsFrom s t (siblings s t (t .nodes))
+
+unfoldable pub noneNear : List Pair → Bool
+noneNear [] = true
+noneNear (p ∷ ps) = false
+
+-- whether cousins are used
+unfoldable pub across : Settings → Tree → Bool
+across s t = noneNear (siblings s t (t .nodes))
+
+abbrev pub mergeStart : Tree → Merging
+mergeStart t = record { entries = t .entries; alive = map (λ _. true) (t .entries); count = 0; widest = f0 }
+
+-- by cost, until the target is reached
+abbrev pub mergesIn : Settings → Tree → Merging
+mergesIn s t = mergeAll s (length (t .entries) - target (s .«max_leaves»)) (sorted (pairsOf s t)) (mergeStart t)
 
 -- each rebuild's merges raise the threshold and add to the merged total
 unfoldable pub mergesOn : ℕ → Float → Running → Running
@@ -95,22 +118,19 @@ mergesOn count widest r = withMerged (r .merged + count) (withThreshold (grownTh
 unfoldable pub withMerges : Tree → Merging → Tree
 withMerges t m = onRunning (mergesOn (m .count) (m .widest)) (withEntries (m .entries) t)
 
+-- the tree without the merged-away entries
+abbrev pub thinned : Tree → Merging → Tree
+thinned t m = dropped (m .alive) (withMerges t m)
+
 -- reinsert, and set the merged total to 0, if cousins were used or it reaches M
 unfoldable pub rebalanced : Settings → Bool → Tree → Tree
-rebalanced s across t = cond (across || leb (s .«max_leaves») (t .running .merged)) (reinserted s (onRunning (withMerged 0) t)) t
+rebalanced s far t = cond (far || leb (s .«max_leaves») (t .running .merged)) (reinserted s (onRunning (withMerged 0) t)) t
 
-unfoldable pub compacted : Settings → Bool → Tree → Merging → Tree
-compacted s across t m = cond (eqb (m .count) 0) t (rebalanced s across (dropped (m .alive) (withMerges t m)))
-
-unfoldable pub mergedBy : Settings → Bool → List Pair → Tree → Tree
-mergedBy s across ps t =
-    let start : Merging = record { entries = t .entries; alive = map (λ _. true) (t .entries); count = 0; widest = f0 } in
-    compacted s across t (mergeAll s (length (t .entries) - target (s .«max_leaves»)) (sorted ps) start)
-
--- cousins only if no leaf has two entries
-unfoldable pub mergedWith : Settings → List Pair → Tree → Tree
-mergedWith s [] t = mergedBy s true (cousins s t (t .nodes)) t
-mergedWith s (p ∷ ps) t = mergedBy s false (p ∷ ps) t
+-- nothing of this where nothing was merged
+unfoldable pub compacted : Settings → Tree → Tree
+compacted s t =
+    let m = mergesIn s t in
+    cond (eqb (m .count) 0) t (rebalanced s (across s t) (thinned t m))
 
 -- the u64 rebuild count stops at its top value
 unfoldable pub oneMore : ℕ → ℕ
@@ -120,4 +140,4 @@ unfoldable pub counted : Tree → Tree
 counted t = onRunning (λ r. withRebuilds (oneMore (r .rebuilds)) r) t
 
 unfoldable pub rebuilt : Settings → Tree → Tree
-rebuilt s t = counted (refolded s (mergedWith s (siblings s t (t .nodes)) t))
+rebuilt s t = counted (refolded s (compacted s t))

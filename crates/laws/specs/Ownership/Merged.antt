@@ -2,10 +2,9 @@
 use Prim.Native.Nat.{ℕ, zero, suc, _+_, _-_, _≤_, _<_}
 use mathlib.Core.Path.{_≡_, refl, sym, ap, _∙_, subst}
 use mathlib.Core.Logic.{_⊎_, inl, inr, _≢_}
-use mathlib.Core.Bool.{Bool, true, false, _||_, cond}
+use mathlib.Core.Bool.{Bool, true, false}
 use mathlib.Core.List.{List, [], _∷_, _++_, map, reverse, reverseAux, append-assoc}
 use native.Mathlib.Omega.{arith}
-use lib.Dec.{leb, eqb}
 use lib.ListN.{length, getD, List·getD-map}
 use Rattle.binary64.specs.Whole.{most}
 use Rattle.feature.specs.declared.Summary.{Summary}
@@ -13,32 +12,32 @@ use Rattle.feature.specs.Summaries.{blank}
 use Rattle.head.specs.declared.Settings.{Settings}
 use Rattle.rules.specs.Lists.{snoc, occurs}
 use Rattle.rules.specs.Tree.{Tree, nodeAt, entryAt, onRunning, withEntries, rowsIn}
-use Rattle.rules.specs.Pairs.{sorted, siblings, cousins}
+use Rattle.rules.specs.Pairs.{sorted}
 use Rattle.rules.specs.declared.Pair.{Pair}
-use Rattle.rules.specs.Rebuild.{Merging, mergeOne, bothAlive, mergeAll, target, renumber, dropped}
-use Rattle.rules.specs.Rebuild.{withMerges, rebalanced, compacted, mergedBy, mergedWith, counted, rebuilt}
+use Rattle.rules.specs.Rebuild.{Merging, mergeOne, bothAlive, mergeAll, target, renumber, dropped, pairsOf, mergeStart, mergesIn, thinned}
+use Rattle.rules.specs.Rebuild.{withMerges, counted, rebuilt}
 use Rattle.rules.specs.Reinsert.{collected, replaced, replacedAll, cleared, reinserted}
 use Rattle.rules.specs.Refold.{refolded}
 use Rattle.counting.specs.Lists.{past-end}
 use Rattle.laws.specs.Inserting.Grown.{Counted}
-use Rattle.counting.specs.Count.{is, below, below-in, lt?, eq-test}
+use Rattle.counting.specs.Count.{is, below, below-in, lt?}
 use Rattle.counting.specs.Sums.{occurs-over, occurs-cons}
-use Rattle.laws.specs.Invariant.Links.{nil}
 use Rattle.laws.specs.Invariant.Sound.{entryWeight, Settled}
 use Rattle.laws.specs.Invariant.Beneath.{Frame}
 use Rattle.counting.specs.Flags.{alive, alive-up, alive-down, is-sum, flag?}
 use Rattle.laws.specs.Invariant.Collected.{collect-sum}
 use Rattle.laws.specs.Rebuilding.Reinsert.{place-entries}
-use Rattle.laws.specs.Rebuilding.Merge.{Merged, mergeWeight, merged-one, Every, merge-all, merges-some, aw-a, aw-b, aw-o, up-a, up-b, entry-a, entry-o}
-use Rattle.laws.specs.Rebuilding.Pairs.{NearPair, siblings-all, every-sorted, sorted-length, leaves-single, every-map}
-use Rattle.laws.specs.Rebuilding.Cousins.{FarPair, cousins-far, cousins-some}
-use Rattle.laws.specs.Rebuilding.Rebuilt.{mergeStart, begun-alive, frame-v, begun-merged, near-far, living-first}
-use Rattle.laws.specs.Demand.{mergedTo, mergedInto, reinsertedTo, rebalancedTo, compactedTo, mergedByTo, mergedWithTo, rebuiltTo}
+use Rattle.laws.specs.Rebuilding.Merge.{Merged, mergeWeight, merged-one, Every, aw-a, aw-b, aw-o, up-a, up-b, entry-a, entry-o}
+use Rattle.laws.specs.Rebuilding.Pairs.{every-sorted}
+use Rattle.laws.specs.Rebuilding.Cousins.{FarPair}
+use Rattle.laws.specs.Rebuilding.Rebuilt.{begun-alive, frame-v, begun-merged, merges-one, merges-merged, pairs-far}
+use Rattle.laws.specs.Demand.{mergedTo, mergedInto, reinsertedTo, rebuiltTo}
 use Rattle.laws.specs.Ownership.Moved.{moved-made}
 use Rattle.laws.specs.Ownership.Owned.{Held, heldBy, Carries, carries-then, carries-same, weight-past, owner-in, merge-carries, drop-carries}
 use Rattle.laws.specs.Running.{refolded-entries}
 use Rattle.counting.specs.Places.{place-occurs, place-get, placeIn}
 use Rattle.head.specs.Counting.{withMerged}
+use Rattle.laws.specs.Rebuilding.Walk.{rebuilt-walk, sentTo, thinnedTo}
 
 -- ---- all merges
 
@@ -210,83 +209,38 @@ module _ {s : Settings} {t : Tree} {R : ℕ → ℕ} {total : ℕ} (g : Settled 
         same : (c : ℕ) → entryWeight (onRunning (withMerged 0) (dropped (m .alive) (withMerges t m))) c ≡ entryWeight (dropped (m .alive) (withMerges t m)) c
         same c = unfold withMerged entryWeight entryAt onRunning in refl
 
-    balance-moves : (across : Bool) → Carries s (λ c. rebalancedTo s across (dropped (m .alive) (withMerges t m)) c)
-        (heldBy (dropped (m .alive) (withMerges t m))) (heldBy (rebalanced s across (dropped (m .alive) (withMerges t m))))
-    unfolding rebalanced rebalancedTo
-    balance-moves across = go (across || leb (s .«max_leaves») ((dropped (m .alive) (withMerges t m)) .running .merged))
-      where
-        go : (b : Bool) → Carries s (λ c. cond b (reinsertedTo s (onRunning (withMerged 0) (dropped (m .alive) (withMerges t m))) c) c)
-            (heldBy (dropped (m .alive) (withMerges t m)))
-            (heldBy (cond b (reinserted s (onRunning (withMerged 0) (dropped (m .alive) (withMerges t m)))) (dropped (m .alive) (withMerges t m))))
-        go true = again-moves
-        go false = carries-same s (heldBy (dropped (m .alive) (withMerges t m))) (heldBy (dropped (m .alive) (withMerges t m))) (λ c. refl)
-            (λ c. refl)
-
-    compact-moves : (across : Bool) → 1 ≤ m .count
-        → Carries s (λ c. compactedTo s across t m c) (heldIn s m) (heldBy (compacted s across t m))
-    unfolding compacted compactedTo
-    compact-moves across k = go (eqb (m .count) 0) refl
-      where
-        go : (b : Bool) → eqb (m .count) 0 ≡ b → Carries s (λ c. cond b c (rebalancedTo s across (dropped (m .alive) (withMerges t m)) (renumber (m .alive) c)))
-            (heldIn s m) (heldBy (cond b t (rebalanced s across (dropped (m .alive) (withMerges t m)))))
-        go true e = let z = eq-test (m .count) 0 true e .0 refl in absurd (omega arith)
-        go false e =
-            carries-then s (renumber (m .alive)) (λ c. rebalancedTo s across (dropped (m .alive) (withMerges t m)) c) (heldIn s m)
-            (heldBy (dropped (m .alive) (withMerges t m))) (heldBy (rebalanced s across (dropped (m .alive) (withMerges t m)))) drop-moves
-            (balance-moves across)
-
-  by-moves : (across : Bool) (ps : List Pair) → 1 ≤ s .«max_leaves» → s .«max_leaves» < length (t .entries) → 0 < length ps
-      → Every (FarPair (length (t .entries))) ps
-      → Carries s (λ c. mergedByTo s across ps t c) (heldBy t) (heldBy (mergedBy s across ps t))
-  unfolding mergedBy mergedByTo
-  by-moves across ps one more some-ps far =
-      carries-then s (λ c. mergedInto s (length (t .entries) - target (s .«max_leaves»)) (sorted ps) (mergeStart t) c) (λ c. compactedTo s across t m c)
-      (heldBy t) (heldIn s m) (heldBy (compacted s across t m))
-      (carries-then s (λ c. c) (λ c. mergedInto s (length (t .entries) - target (s .«max_leaves»)) (sorted ps) (mergeStart t) c) (heldBy t)
-      (heldIn s (mergeStart t)) (heldIn s m)
-      begin-carries (merges-carry s (length (t .entries)) total (g .exact .small) (length (t .entries) - target (s .«max_leaves»)) (sorted ps) (mergeStart t)
-      (begun-merged g n) all-far))
-      (compact-moves merged (omega arith) across (first (sorted ps) (sorted-length ps) all-far))
-    where
-      m : Merging
-      m = mergeAll s (length (t .entries) - target (s .«max_leaves»)) (sorted ps) (mergeStart t)
-
-      all-far : Every (FarPair (length (t .entries))) (sorted ps)
-      all-far = every-sorted (FarPair (length (t .entries))) ps far
-
-      merged : Merged s (length (t .entries)) total (mergeAll s (length (t .entries) - target (s .«max_leaves»)) (sorted ps) (mergeStart t))
-      merged =
-          merge-all s (Merged s (length (t .entries)) total) (FarPair (length (t .entries))) (λ p m q l x. merged-one p (g .exact .small) x (q .2) l)
-          (length (t .entries) - target (s .«max_leaves»)) (sorted ps) (mergeStart t) all-far (begun-merged g n)
-
-      enough : 1 ≤ length (t .entries) - target (s .«max_leaves»)
-      enough = unfold target in omega arith
-
-      first : (qs : List Pair) → length qs ≡ length ps → Every (FarPair (length (t .entries))) qs
-          → 1 ≤ (mergeAll s (length (t .entries) - target (s .«max_leaves»)) qs (mergeStart t)) .count
-      first [] e a = absurd (omega arith)
-      first (q ∷ qs) e a = merges-some s (length (t .entries) - target (s .«max_leaves»)) q qs (mergeStart t) enough (living-first g n q (a .0))
-
-  with-moves : 1 ≤ s .«max_leaves» → s .«max_leaves» < length (t .entries)
-      → Carries s (λ c. mergedWithTo s (siblings s t (t .nodes)) t c) (heldBy t) (heldBy (mergedWith s (siblings s t (t .nodes)) t))
-  unfolding mergedWith mergedWithTo
-  with-moves one more = go (siblings s t (t .nodes)) refl (siblings-all s t)
-    where
-      go : (ps : List Pair) → siblings s t (t .nodes) ≡ ps → Every (NearPair s t) ps
-          → Carries s (λ c. mergedWithTo s ps t c) (heldBy t) (heldBy (mergedWith s ps t))
-      go [] e a =
-          by-moves true (cousins s t (t .nodes)) one more (cousins-some t (g .links) (leaves-single s t R nil nil nil (g .links) (ap (λ z. length z) e))
-          (omega arith)) (cousins-far t (g .links) (t .nodes))
-      go (p ∷ ps) e a = by-moves false (p ∷ ps) one more (omega arith) (every-map (NearPair s t) (FarPair (length (t .entries))) (p ∷ ps) (near-far g n) a)
+  -- the merges, entry by entry
+  pub merges-move : Carries s (sentTo s t) (heldBy t) (heldIn s (mergesIn s t))
+  merges-move =
+      carries-then s (λ c. c) (sentTo s t) (heldBy t) (heldIn s (mergeStart t)) (heldIn s (mergesIn s t)) begin-carries
+      (merges-carry s (length (t .entries)) total (g .exact .small) (length (t .entries) - target (s .«max_leaves»)) (sorted (pairsOf s t)) (mergeStart t)
+      (begun-merged g n) (every-sorted (FarPair (length (t .entries))) (pairsOf s t) (pairs-far g n)))
 
   pub rebuild-moves : 1 ≤ s .«max_leaves» → s .«max_leaves» < length (t .entries) → Carries s (λ c. rebuiltTo s t c) (heldBy t) (heldBy (rebuilt s t))
-  unfolding rebuilt rebuiltTo
   rebuild-moves one more =
-      carries-then s (λ c. mergedWithTo s (siblings s t (t .nodes)) t c) (λ c. c) (heldBy t) (heldBy v) (heldBy (counted (refolded s v))) (with-moves one more)
-      (carries-same s (heldBy v) (heldBy (counted (refolded s v))) (λ c. unfold entryWeight in ap (λ e. rowsIn e) (same c)) same)
+      rebuilt-walk s t (λ f v. Carries s f (heldBy t) (heldBy v)) (λ e. absurd (let k = merges-one g n one more in omega arith)) (λ _. thin)
+      (carries-then s (thinnedTo s t) (λ c. reinsertedTo s (onRunning (withMerged 0) u) c) (heldBy t) (heldBy u)
+      (heldBy (reinserted s (onRunning (withMerged 0) u))) thin (again-moves d (omega arith)))
+      (λ f v p. carries-then s f (λ c. c) (heldBy t) (heldBy v) (heldBy (refolded s v)) p (folds v))
+      (λ f v p. carries-then s f (λ c. c) (heldBy t) (heldBy v) (heldBy (counted v)) p (counts v))
     where
-      v : Tree
-      v = mergedWith s (siblings s t (t .nodes)) t
+      u : Tree
+      u = thinned t (mergesIn s t)
 
-      same : (c : ℕ) → entryAt (counted (refolded s v)) c ≡ entryAt v c
-      same c = unfold counted entryAt onRunning in ap (λ l. getD l c blank) (refolded-entries s v)
+      d : Merged s (length (t .entries)) total (mergesIn s t)
+      d = merges-merged g n
+
+      thin : Carries s (thinnedTo s t) (heldBy t) (heldBy u)
+      thin =
+          carries-then s (sentTo s t) (renumber (mergesIn s t .alive)) (heldBy t) (heldIn s (mergesIn s t)) (heldBy u) merges-move
+          (drop-moves d (omega arith))
+
+      folds : (v : Tree) → Carries s (λ c. c) (heldBy v) (heldBy (refolded s v))
+      folds v = carries-same s (heldBy v) (heldBy (refolded s v)) (λ c. unfold entryWeight in ap (λ e. rowsIn e) (same c)) same
+        where
+          same : (c : ℕ) → entryAt (refolded s v) c ≡ entryAt v c
+          same c = unfold entryAt in ap (λ l. getD l c blank) (refolded-entries s v)
+
+      counts : (v : Tree) → Carries s (λ c. c) (heldBy v) (heldBy (counted v))
+      counts v = carries-same s (heldBy v) (heldBy (counted v)) (λ c. unfold entryWeight entryAt counted onRunning in refl)
+          (λ c. unfold entryAt counted onRunning in refl)

@@ -1,26 +1,22 @@
 -- The rebuild keeps the invariant and the total, and leaves fewer entries.
 use Prim.Native.Nat.{ℕ, zero, suc, _-_, _≤_, _<_}
 use mathlib.Core.Path.{_≡_, refl, sym, ap, _∙_, subst}
-use mathlib.Core.Bool.{Bool, true, false, _||_, _&&_, true≢false, cond}
+use mathlib.Core.Bool.{true, false, _&&_, true≢false}
 use mathlib.Core.List.{List, [], _∷_, map}
 use native.Mathlib.Nat.{not-suc-le-zero, le-of-suc-le-suc}
 use native.Mathlib.Omega.{arith}
-use lib.Dec.{leb, eqb}
 use lib.ListN.{length, getD, length-map}
-use Rattle.binary64.specs.Operators.{f0}
 use Rattle.feature.specs.declared.Summary.{Summary}
 use Rattle.feature.specs.Summaries.{blank}
 use Rattle.head.specs.declared.Settings.{Settings}
 use Rattle.rules.specs.Lists.{countUp, occurs}
 use Rattle.rules.specs.Tree.{Tree, nodeAt, entryAt, onRunning, withEntries, rowsIn}
-use Rattle.rules.specs.Pairs.{sorted, siblings, cousins}
+use Rattle.rules.specs.Pairs.{sorted, siblings}
 use Rattle.rules.specs.declared.Pair.{Pair}
-use Rattle.rules.specs.Rebuild.{Merging, mergeAll, bothAlive, dropped, withMerges, target, rebalanced, compacted, mergedBy, mergedWith, counted, rebuilt}
+use Rattle.rules.specs.Rebuild.{Merging, mergeAll, bothAlive, dropped, withMerges, target, pairsFrom, pairsOf, noneNear, across, mergeStart, mergesIn, counted, rebuilt, compacted, thinned}
 use Rattle.rules.specs.Reinsert.{reinserted}
-use Rattle.rules.specs.Refold.{refolded}
 use Rattle.laws.specs.Invariant.Weights.{IsExact}
 use Rattle.counting.specs.Sums.{over, over-same, length-over, sumTo, sum-same, sum-at}
-use Rattle.counting.specs.Count.{eq-test}
 use Rattle.laws.specs.Invariant.Links.{Links, nil}
 use Rattle.laws.specs.Invariant.Weigh.{own-leaf, own-inner}
 use Rattle.laws.specs.Invariant.Sound.{entryWeight, nodeWeight, Settled, Caps}
@@ -36,10 +32,8 @@ use Rattle.laws.specs.Rebuilding.Reinsert.{reinserted-whole}
 use Rattle.laws.specs.Rebuilding.Restored.{refolded-whole}
 use Rattle.laws.specs.Rebuilding.Refold.{counted-whole}
 use Rattle.laws.specs.Running.{refolded-entries}
+use Rattle.laws.specs.Rebuilding.Walk.{Stays, compacted-walk, rebuilt-walk}
 use Rattle.head.specs.Counting.{withMerged}
-
-abbrev pub mergeStart : Tree → Merging
-mergeStart t = record { entries = t .entries; alive = map (λ _. true) (t .entries); count = 0; widest = f0 }
 
 up-flags : (l : List Summary) (c : ℕ) → c < length l → getD (map (λ _. true) l) c false ≡ true
 up-flags [] c h = absurd (not-suc-le-zero h)
@@ -186,92 +180,103 @@ module _ {s : Settings} {t : Tree} {R : ℕ → ℕ} {total : ℕ} (g : Settled 
         st : (k : ℕ) → k < length (u .nodes) → nodeAt u k .leaf ≡ true → 0 < over (alive (m .alive) (λ _. 1)) (nodeAt u k .list)
         st = unfold withMerges nodeAt onRunning withEntries in (near .stay)
 
-  -- ---- one merge at least
-
-  -- the invariant and the total kept, fewer entries
-  abbrev pub Fewer : Tree → Type 0
-  Fewer r = Whole s r total × (suc (length (r .entries)) ≤ length (t .entries))
-
-  compacted-fewer : (across : Bool) (m : Merging) → Caps s → Merged s (length (t .entries)) total m → (across ≡ false → Near s t m) → 0 < length (t .entries)
-      → 1 ≤ m .count → Fewer (compacted s across t m)
-  unfolding compacted rebalanced
-  compacted-fewer across m c d near h k = go (eqb (m .count) 0) refl
-    where
-      fewer : suc (countUp (m .alive)) ≤ length (t .entries)
-      fewer = let q = d .counted in omega arith
-
-      balance : (a b : Bool) → across ≡ a
-          → Fewer (cond (a || b) (reinserted s (onRunning (withMerged 0) (dropped (m .alive) (withMerges t m)))) (dropped (m .alive) (withMerges t m)))
-      balance true b e = let r = reinserted-merged d h c in (r .0, (let q = r .1 in let f = fewer in omega arith))
-      balance false true e = let r = reinserted-merged d h c in (r .0, (let q = r .1 in let f = fewer in omega arith))
-      balance false false e = let r = dropped-merged d h (near e) in (r .0, (let q = r .1 in let f = fewer in omega arith))
-
-      go : (b : Bool) → eqb (m .count) 0 ≡ b → Fewer (cond b t (cond (across || leb (s .«max_leaves») ((dropped (m .alive) (withMerges t m)) .running .merged))
-          (reinserted s (onRunning (withMerged 0) (dropped (m .alive) (withMerges t m)))) (dropped (m .alive) (withMerges t m))))
-      go true e = let z = eq-test (m .count) 0 true e .0 refl in absurd (omega arith)
-      go false e = balance across (leb (s .«max_leaves») ((dropped (m .alive) (withMerges t m)) .running .merged)) refl
+  -- ---- the merges of a rebuild: one at least
 
   pub living-first : (p : Pair) → FarPair (length (t .entries)) p → bothAlive p ((mergeStart t) .alive) ≡ true
   unfolding bothAlive
   living-first p f = ap (λ b. b && getD ((mergeStart t) .alive) (p .two) false) (up-flags (t .entries) (p .one) (f .0)) ∙ up-flags (t .entries) (p .two) (f .1)
 
-  -- all the merges that a rebuild makes of the pairs ps
-  abbrev pub mergesOf : List Pair → Merging
-  mergesOf ps = mergeAll s (length (t .entries) - target (s .«max_leaves»)) (sorted ps) (mergeStart t)
-
-  pub merges-merged : (ps : List Pair) → Every (FarPair (length (t .entries))) ps → Merged s (length (t .entries)) total (mergesOf ps)
-  merges-merged ps far =
-      merge-all s (Merged s (length (t .entries)) total) (FarPair (length (t .entries))) (λ p m q l x. merged-one p (g .exact .small) x (q .2) l)
-      (length (t .entries) - target (s .«max_leaves»)) (sorted ps) (mergeStart t) (every-sorted (FarPair (length (t .entries))) ps far) begun-merged
-
-  mergedBy-fewer : (across : Bool) (ps : List Pair) → Caps s → 1 ≤ s .«max_leaves» → s .«max_leaves» < length (t .entries) → 0 < length ps
-      → Every (FarPair (length (t .entries))) ps → (across ≡ false → Every (NearPair s t) ps) → Fewer (mergedBy s across ps t)
-  unfolding mergedBy
-  mergedBy-fewer across ps c one more some-ps far near =
-      compacted-fewer across (mergesOf ps) c (merges-merged ps far) (λ e. close (near e) .1) (omega arith)
-      (closest (sorted ps) (sorted-length ps) (every-sorted (FarPair (length (t .entries))) ps far))
-    where
-      close : Every (NearPair s t) ps → Merged s (length (t .entries)) total (mergesOf ps) × Near s t (mergesOf ps)
-      close a = merge-all s (λ m. Merged s (length (t .entries)) total m × Near s t m) (NearPair s t) (λ p m q l x. (
-        merged-one p (g .exact .small) (x .0) (q .5) l,
-        near-one p (g .exact .small) (x .0) (q .5) l (g .links) (x .1) (q .0) (q .1) (q .2) (q .3) (q .4),
-      ))
-          (length (t .entries) - target (s .«max_leaves»)) (sorted ps) (mergeStart t) (every-sorted (NearPair s t) ps a) (begun-merged, begun-near)
-
-      enough : 1 ≤ length (t .entries) - target (s .«max_leaves»)
-      enough = unfold target in omega arith
-
-      closest : (qs : List Pair) → length qs ≡ length ps → Every (FarPair (length (t .entries))) qs
-          → 1 ≤ (mergeAll s (length (t .entries) - target (s .«max_leaves»)) qs (mergeStart t)) .count
-      closest [] e a = absurd (omega arith)
-      closest (q ∷ qs) e a = merges-some s (length (t .entries) - target (s .«max_leaves»)) q qs (mergeStart t) enough (living-first q (a .0))
-
   pub near-far : (p : Pair) → NearPair s t p → FarPair (length (t .entries)) p
   near-far p q = (inside (q .0) (p .one) (q .1) (q .2) (q .3), inside (q .0) (p .two) (q .1) (q .2) (q .4), q .5)
 
-  -- the merges of siblings, or of cousins where there are none, with what follows them
-  pub mergedWith-fewer : Caps s → 1 ≤ s .«max_leaves» → s .«max_leaves» < length (t .entries) → Fewer (mergedWith s (siblings s t (t .nodes)) t)
-  unfolding mergedWith
-  mergedWith-fewer c one more = go (siblings s t (t .nodes)) refl (siblings-all s t)
+  -- the pairs name two entries each, siblings where they are used, and there is one at least
+  pub pairs-far : Every (FarPair (length (t .entries))) (pairsOf s t)
+  pairs-far = go (siblings s t (t .nodes)) (siblings-all s t)
     where
-      go : (ps : List Pair) → siblings s t (t .nodes) ≡ ps → Every (NearPair s t) ps → Fewer (mergedWith s ps t)
-      go [] e a =
-          mergedBy-fewer true (cousins s t (t .nodes)) c one more
-          (cousins-some t (g .links) (leaves-single s t R nil nil nil (g .links) (ap (λ z. length z) e)) (omega arith))
-          (cousins-far t (g .links) (t .nodes)) (λ q. absurd (true≢false q))
-      go (p ∷ ps) e a =
-          mergedBy-fewer false (p ∷ ps) c one more (omega arith) (every-map (NearPair s t) (FarPair (length (t .entries))) (p ∷ ps) near-far a) (λ _. a)
+      go : (ps : List Pair) → Every (NearPair s t) ps → Every (FarPair (length (t .entries))) (pairsFrom s t ps)
+      go [] a = unfold pairsFrom in cousins-far t (g .links) (t .nodes)
+      go (p ∷ ps) a = unfold pairsFrom in every-map (NearPair s t) (FarPair (length (t .entries))) (p ∷ ps) near-far a
+
+  pairs-near : across s t ≡ false → Every (NearPair s t) (pairsOf s t)
+  unfolding across
+  pairs-near e = go (siblings s t (t .nodes)) e (siblings-all s t)
+    where
+      go : (ps : List Pair) → noneNear ps ≡ false → Every (NearPair s t) ps → Every (NearPair s t) (pairsFrom s t ps)
+      go [] e a = unfold noneNear in absurd (true≢false e)
+      go (p ∷ ps) e a = unfold pairsFrom in a
+
+  pairs-some : 2 ≤ length (t .entries) → 0 < length (pairsOf s t)
+  pairs-some h = go (siblings s t (t .nodes)) refl
+    where
+      go : (ps : List Pair) → siblings s t (t .nodes) ≡ ps → 0 < length (pairsFrom s t ps)
+      go [] e = unfold pairsFrom in cousins-some t (g .links) (leaves-single s t R nil nil nil (g .links) (ap (λ z. length z) e)) h
+      go (p ∷ ps) e = unfold pairsFrom in omega arith
+
+  abbrev wanted : ℕ
+  wanted = length (t .entries) - target (s .«max_leaves»)
+
+  -- of any pairs of entries
+  pub merges-far : (ps : List Pair) → Every (FarPair (length (t .entries))) ps
+      → Merged s (length (t .entries)) total (mergeAll s wanted (sorted ps) (mergeStart t))
+  merges-far ps far =
+      merge-all s (Merged s (length (t .entries)) total) (FarPair (length (t .entries))) (λ p m q l x. merged-one p (g .exact .small) x (q .2) l)
+      wanted (sorted ps) (mergeStart t) (every-sorted (FarPair (length (t .entries))) ps far) begun-merged
+
+  pub merges-merged : Merged s (length (t .entries)) total (mergesIn s t)
+  merges-merged = merges-far (pairsOf s t) pairs-far
+
+  merges-near : across s t ≡ false → Near s t (mergesIn s t)
+  merges-near e =
+      merge-all s (λ m. Merged s (length (t .entries)) total m × Near s t m) (NearPair s t) (λ p m q l x. (
+        merged-one p (g .exact .small) (x .0) (q .5) l,
+        near-one p (g .exact .small) (x .0) (q .5) l (g .links) (x .1) (q .0) (q .1) (q .2) (q .3) (q .4),
+      ))
+      wanted (sorted (pairsOf s t)) (mergeStart t) (every-sorted (NearPair s t) (pairsOf s t) (pairs-near e)) (begun-merged, begun-near) .1
+
+  pub merges-one : 1 ≤ s .«max_leaves» → s .«max_leaves» < length (t .entries) → 1 ≤ mergesIn s t .count
+  merges-one one more =
+      first (sorted (pairsOf s t)) (sorted-length (pairsOf s t)) (every-sorted (FarPair (length (t .entries))) (pairsOf s t) pairs-far)
+    where
+      enough : 1 ≤ length (t .entries) - target (s .«max_leaves»)
+      enough = unfold target in omega arith
+
+      first : (qs : List Pair) → length qs ≡ length (pairsOf s t) → Every (FarPair (length (t .entries))) qs → 1 ≤ (mergeAll s wanted qs (mergeStart t)) .count
+      first [] e a = let p = pairs-some (omega arith) in absurd (omega arith)
+      first (q ∷ qs) e a = merges-some s wanted q qs (mergeStart t) enough (living-first q (a .0))
 
 -- ---- the rebuild
 
 -- the invariant and the total kept, one entry less at least
-pub rebuilt-whole : (s : Settings) (t : Tree) (total : ℕ) → Caps s → 1 ≤ s .«max_leaves» → Whole s t total → s .«max_leaves» < length (t .entries)
-    → Whole s (rebuilt s t) total × (suc (length ((rebuilt s t) .entries)) ≤ length (t .entries))
-unfolding rebuilt
-rebuilt-whole s t total c one w more =
-    let r = mergedWith-fewer (w .1) (w .2) c one more in
-    let v = mergedWith s (siblings s t (t .nodes)) t in
-    (counted-whole s (refolded s v) total (refolded-whole s v total (r .0)), subst (λ k. suc k ≤ length (t .entries)) (sym (same v)) (r .1))
-  where
-    same : (v : Tree) → length ((counted (refolded s v)) .entries) ≡ length (v .entries)
-    same v = unfold counted onRunning in ap (λ l. length l) (refolded-entries s v)
+abbrev pub Fewer : Settings → ℕ → Tree → Tree → Type 0
+Fewer s total t v = Whole s v total × (suc (length (v .entries)) ≤ length (t .entries))
+
+module _ (s : Settings) (t : Tree) (total : ℕ) (c : Caps s) (one : 1 ≤ s .«max_leaves») (w : Whole s t total) (more : s .«max_leaves» < length (t .entries)) where
+  pos : 0 < length (t .entries)
+  pos = omega arith
+
+  done : Merged s (length (t .entries)) total (mergesIn s t)
+  done = merges-merged (w .1) (w .2)
+
+  some-merged : 1 ≤ mergesIn s t .count
+  some-merged = merges-one (w .1) (w .2) one more
+
+  fewer : suc (countUp (mergesIn s t .alive)) ≤ length (t .entries)
+  fewer = let q = done .counted in let k = some-merged in omega arith
+
+  none : mergesIn s t .count ≡ 0 → Fewer s total t t
+  none e = absurd (let k = some-merged in omega arith)
+
+  thin : Stays s t → Fewer s total t (thinned t (mergesIn s t))
+  thin q = let r = dropped-merged (w .1) (w .2) done pos (merges-near (w .1) (w .2) (q .near)) in (r .0, (let k = r .1 in let f = fewer in omega arith))
+
+  place : Fewer s total t (reinserted s (onRunning (withMerged 0) (thinned t (mergesIn s t))))
+  place = let r = reinserted-merged (w .1) (w .2) done pos c in (r .0, (let k = r .1 in let f = fewer in omega arith))
+
+  pub compacted-whole : Fewer s total t (compacted s t)
+  compacted-whole = compacted-walk s t (λ _ v. Fewer s total t v) none thin place
+
+  pub rebuilt-whole : Fewer s total t (rebuilt s t)
+  rebuilt-whole =
+      rebuilt-walk s t (λ _ v. Fewer s total t v) none thin place
+      (λ _ v q. (refolded-whole s v total (q .0), subst (λ es. suc (length es) ≤ length (t .entries)) (sym (refolded-entries s v)) (q .1)))
+      (λ _ v q. (counted-whole s v total (q .0), unfold counted onRunning in q .1))

@@ -1,7 +1,7 @@
 -- Room through a rebuild: merges, dropping, reinsertion and refold go through roomy trees.
 -- All but reinsertion adds no node and no entry, and lengthens no list. Reinsertion is listed whether or not it is due, and so is dropping.
 use Prim.Native.Nat.{ℕ, zero, suc, _+_, _-_, _≤_, _<_}
-use mathlib.Core.Path.{_≡_, refl, ap, subst}
+use mathlib.Core.Path.{_≡_, refl, ap}
 use mathlib.Core.Logic.{inr}
 use mathlib.Core.Bool.{Bool, true, false, cond, _||_}
 use mathlib.Core.List.{List, [], _∷_, map, reverse}
@@ -12,21 +12,19 @@ use Rattle.feature.specs.Summaries.{blank}
 use Rattle.feature.specs.declared.Summary.{Summary}
 use Rattle.head.specs.declared.Settings.{Settings}
 use Rattle.rules.specs.Tree.{Node, Tree, merge, nodeAt, blankNode, child, withNodes, withEntries, onRunning, summed}
-use Rattle.rules.specs.Pairs.{sorted, siblings, cousins}
+use Rattle.rules.specs.Pairs.{sorted}
 use Rattle.rules.specs.declared.Pair.{Pair}
 use Rattle.rules.specs.Reinsert.{reinserted}
 use Rattle.rules.specs.Refold.{foldBalanced, refoldOne, preorder, refoldAll, refolded}
-use Rattle.rules.specs.Rebuild.{target, Merging, mergeOne, bothAlive, mergeAll, dropped, withMerges, rebalanced}
-use Rattle.rules.specs.Rebuild.{compacted, mergedBy, mergedWith, counted, rebuilt}
+use Rattle.rules.specs.Rebuild.{target, Merging, mergeOne, bothAlive, mergeAll, dropped, withMerges, rebalanced, pairsOf, across, mergeStart, mergesIn, thinned, compacted}
+use Rattle.rules.specs.Rebuild.{counted, rebuilt}
 use Rattle.counting.specs.Flags.{keep-few}
 use Rattle.counting.specs.Lists.{change-keeps, length-change}
 use Rattle.laws.specs.Invariant.Sound.{Caps}
 use Rattle.laws.specs.Inserting.Grown.{Whole}
 use Rattle.laws.specs.Rebuilding.Drop.{dropped-nodes, dropped-leaf, dropped-lists}
-use Rattle.laws.specs.Rebuilding.Merge.{Merged, Every}
-use Rattle.laws.specs.Rebuilding.Pairs.{NearPair, siblings-all, every-map}
-use Rattle.laws.specs.Rebuilding.Cousins.{FarPair, cousins-far}
-use Rattle.laws.specs.Rebuilding.Rebuilt.{mergeStart, near-far, merges-merged, frame-w, rows-w, counted-w, length-w, pos-w}
+use Rattle.laws.specs.Rebuilding.Merge.{Merged}
+use Rattle.laws.specs.Rebuilding.Rebuilt.{merges-merged, frame-w, rows-w, counted-w, length-w, pos-w}
 use Rattle.laws.specs.Room.Nodes.{Roomy, Within, within-then, within-roomy}
 use Rattle.laws.specs.Room.Moments.{holding-roomy, Reinserting, reinserting-end, reinserting-roomy}
 use Rattle.head.specs.Counting.{withMerged}
@@ -116,62 +114,36 @@ merges-roomy {s} {t} {m = m} r h (next {p = p} e w) =
     unfold mergeOne in length-change (λ e. merge s e (getD (m .entries) (p .two) blank)) (p .one) (m .entries) in
     merges-roomy r (omega arith) w
 
--- the pairs that it goes by: cousins only if no leaf has two entries
-unfoldable pub pairsOf : Settings → Tree → List Pair → List Pair
-pairsOf s t [] = cousins s t (t .nodes)
-pairsOf s t (p ∷ ps) = p ∷ ps
-
-abbrev pub mergesIn : Settings → Tree → Merging
-mergesIn s t = mergeAll s (length (t .entries) - target (s .«max_leaves»)) (sorted (pairsOf s t (siblings s t (t .nodes)))) (mergeStart t)
-
--- the tree without the merged-away entries
-abbrev pub thinned : Settings → Tree → Tree
-thinned s t = dropped (mergesIn s t .alive) (withMerges t (mergesIn s t))
-
 -- the trees before the refold
 pub data Compacting (s : Settings) (t : Tree) : Tree → Type 0 where
   start : Compacting s t t
-  merging : {u : Tree} → Merges s t (length (t .entries) - target (s .«max_leaves»)) (sorted (pairsOf s t (siblings s t (t .nodes)))) (mergeStart t) u
+  merging : {u : Tree} → Merges s t (length (t .entries) - target (s .«max_leaves»)) (sorted (pairsOf s t)) (mergeStart t) u
       → Compacting s t u
-  drops : Compacting s t (thinned s t)
-  reinserting : {u : Tree} → Reinserting s (onRunning (withMerged 0) (thinned s t)) u → Compacting s t u
+  drops : Compacting s t (thinned t (mergesIn s t))
+  reinserting : {u : Tree} → Reinserting s (onRunning (withMerged 0) (thinned t (mergesIn s t))) u → Compacting s t u
 
 pub data Rebuilding (s : Settings) (t : Tree) : Tree → Type 0 where
   compacting : {u : Tree} → Compacting s t u → Rebuilding s t u
-  refolding : {u : Tree} → Refolding s (mergedWith s (siblings s t (t .nodes)) t) u → Rebuilding s t u
+  refolding : {u : Tree} → Refolding s (compacted s t) u → Rebuilding s t u
   counts : Rebuilding s t (rebuilt s t)
 
 -- the tree that is refolded is one of the first
-pub compacting-end : (s : Settings) (t : Tree) → Compacting s t (mergedWith s (siblings s t (t .nodes)) t)
-unfolding mergedWith mergedBy
-compacting-end s t = go (siblings s t (t .nodes)) refl
+pub compacting-end : (s : Settings) (t : Tree) → Compacting s t (compacted s t)
+unfolding compacted rebalanced
+compacting-end s t = pick (eqb (mergesIn s t .count) 0) (across s t || leb (s .«max_leaves») (thinned t (mergesIn s t) .running .merged))
   where
-    balance : (m : Merging) → mergesIn s t ≡ m → (across : Bool) → Compacting s t (compacted s across t m)
-    balance m e across =
-        subst (λ m. Compacting s t (compacted s across t m)) e
-        (unfold compacted rebalanced in pick (eqb (mergesIn s t .count) 0) (across || leb (s .«max_leaves») (thinned s t .running .merged)))
-      where
-        pick : (a b : Bool) → Compacting s t (cond a t (cond b (reinserted s (onRunning (withMerged 0) (thinned s t))) (thinned s t)))
-        pick true b = start
-        pick false true = reinserting (reinserting-end s (onRunning (withMerged 0) (thinned s t)))
-        pick false false = drops
+    u : Tree
+    u = thinned t (mergesIn s t)
 
-    by : (ps : List Pair) → pairsOf s t (siblings s t (t .nodes)) ≡ ps → (across : Bool) → Compacting s t (mergedBy s across ps t)
-    by ps e across = unfold mergedBy in balance _ (ap (λ ps. mergeAll s (length (t .entries) - target (s .«max_leaves»)) (sorted ps) (mergeStart t)) e) across
-
-    go : (ps : List Pair) → siblings s t (t .nodes) ≡ ps → Compacting s t (mergedWith s ps t)
-    go [] e = by (cousins s t (t .nodes)) (unfold pairsOf in ap (pairsOf s t) e) true
-    go (p ∷ ps) e = by (p ∷ ps) (unfold pairsOf in ap (pairsOf s t) e) false
+    pick : (a b : Bool) → Compacting s t (cond a t (cond b (reinserted s (onRunning (withMerged 0) u)) u))
+    pick true b = start
+    pick false true = reinserting (reinserting-end s (onRunning (withMerged 0) u))
+    pick false false = drops
 
 module _ {s : Settings} {t : Tree} {total : ℕ} (c : Caps s) (w : Whole s t total) (pos : 0 < length (t .entries))
     (few : length (t .entries) ≤ s .«max_leaves» + 1) where
-  far : (ps : List Pair) → Every (NearPair s t) ps → Every (FarPair (length (t .entries))) (pairsOf s t ps)
-  unfolding pairsOf
-  far [] a = cousins-far t (w .1 .links) (t .nodes)
-  far (p ∷ ps) a = every-map (NearPair s t) (FarPair (length (t .entries))) (p ∷ ps) (near-far (w .1) (w .2)) a
-
   merged-all : Merged s (length (t .entries)) total (mergesIn s t)
-  merged-all = merges-merged (w .1) (w .2) (pairsOf s t (siblings s t (t .nodes))) (far (siblings s t (t .nodes)) (siblings-all s t))
+  merged-all = merges-merged (w .1) (w .2)
 
   before : Roomy s t
   before = holding-roomy s t total (inr w) few
@@ -188,14 +160,14 @@ module _ {s : Settings} {t : Tree} {total : ℕ} (c : Caps s) (w : Whole s t tot
       let d = merged-all in
       let n = length-w (w .1) (w .2) d pos in
       let q = d .counted in
-      reinserting-roomy (onRunning (withMerged 0) (thinned s t)) total c (frame-w (w .1) (w .2) d pos) (rows-w (w .1) (w .2) d pos) (counted-w (w .1) (w .2) d pos)
+      reinserting-roomy (onRunning (withMerged 0) (thinned t (mergesIn s t))) total c (frame-w (w .1) (w .2) d pos) (rows-w (w .1) (w .2) d pos) (counted-w (w .1) (w .2) d pos)
       (w .1 .exact .small) (pos-w (w .1) (w .2) d pos) (omega arith) r
 
   -- every tree that a rebuild goes through
   pub rebuilding-roomy : {u : Tree} → Rebuilding s t u → Roomy s u
-  unfolding rebuilt
+  unfolding rebuilt compacted
   rebuilding-roomy (compacting r) = compacting-roomy r
   rebuilding-roomy (refolding r) = refolds-roomy (compacting-roomy (compacting-end s t)) r
   rebuilding-roomy counts =
-      let v = mergedWith s (siblings s t (t .nodes)) t in
+      let v = compacted s t in
       within-roomy (counted-within (refolded s v)) (refolds-roomy (compacting-roomy (compacting-end s t)) (refolding-end s v))

@@ -6,7 +6,7 @@ use mathlib.Core.Bool.{Bool, true, false, _||_, _&&_, cond}
 use mathlib.Core.List.{List, [], _∷_}
 use native.Mathlib.Nat.{zero-mul}
 use native.Mathlib.Omega.{arith}
-use lib.Dec.{T, leb, ltb, eqb, ltb→lt, eqb→eq, lt→ltb}
+use lib.Dec.{T, ltb, eqb, ltb→lt, eqb→eq, lt→ltb}
 use lib.IntN.{ℤ, pos}
 use lib.Ieee.{Float, nan, inf, fin, lt, le, eq, up, down, ofBits}
 use lib.Ieee.Fits.{and-l}
@@ -17,13 +17,10 @@ use Rattle.head.specs.declared.Head.{Head}
 use Rattle.head.specs.declared.Settings.{Settings}
 use Rattle.head.specs.Heads.{withCounters}
 use Rattle.head.specs.Limits.{both, allowed, sizesWithin, choicesWithin, thresholdWithin}
-use Rattle.rules.specs.Rebuild.{growth, Merging, dropped, grownThreshold, withMerges, rebalanced, compacted, mergesOn}
-use Rattle.rules.specs.Rebuild.{mergedBy, mergedWith, counted, rebuilt}
+use Rattle.rules.specs.Rebuild.{growth, dropped, grownThreshold, withMerges, mergesOn, mergesIn, thinned}
+use Rattle.rules.specs.Rebuild.{counted, rebuilt}
 use Rattle.rules.specs.Tree.{Tree, withNodes, withEntries, onRunning}
 use Rattle.rules.specs.Insert.{grown, rowItem}
-use Rattle.rules.specs.Pairs.{siblings, cousins}
-use Rattle.rules.specs.declared.Pair.{Pair}
-use Rattle.rules.specs.Reinsert.{reinserted}
 use Rattle.rules.specs.Refit.{refitted}
 use Rattle.rules.specs.Slices.{treeOf, countersOf}
 use Rattle.rules.specs.Calls.{lentTree}
@@ -31,6 +28,7 @@ use Rattle.laws.specs.Running.{InLimits, Fine, refolded-running, reinser
 use Rattle.head.specs.Counting.{withThreshold, withRebuilds, withMerged}
 use Rattle.rules.specs.Route.{Route}
 use Rattle.rules.specs.Rows.{inserted, insertedAll}
+use Rattle.laws.specs.Rebuilding.Walk.{rebuilt-walk}
 
 -- ---- floats
 
@@ -102,41 +100,16 @@ raised-fine h w f = go h (w ⊗ growth) f
 
 -- ---- the steps
 
-balanced-fine : (s : Settings) (across : Bool) (t : Tree) → Fine (t .running) → Fine ((rebalanced s across t) .running)
-unfolding rebalanced
-balanced-fine s across t f = go (across || leb (s .«max_leaves») (t .running .merged))
-  where
-    again : (reinserted s (onRunning (withMerged 0) t)) .running .threshold ≡ t .running .threshold
-    again = unfold onRunning withMerged in ap (λ c. c .threshold) (reinserted-running s (onRunning (withMerged 0) t))
-
-    go : (b : Bool) → Fine ((cond b (reinserted s (onRunning (withMerged 0) t)) t) .running)
-    go true = subst InLimits (sym again) f
-    go false = f
-
-by-fine : (s : Settings) (across : Bool) (ps : List Pair) (t : Tree) → Fine (t .running) → Fine ((mergedBy s across ps t) .running)
-unfolding mergedBy
-by-fine s across ps t f = go _
-  where
-    go : (m : Merging) → Fine ((compacted s across t m) .running)
-    go m = unfold compacted in pick (eqb (m .count) 0)
-      where
-        up′ : Fine ((dropped (m .alive) (withMerges t m)) .running)
-        up′ = unfold dropped withMerges mergesOn withMerged withThreshold onRunning withEntries withNodes in raised-fine (t .running .threshold) (m .widest) f
-
-        pick : (b : Bool) → Fine ((cond b t (rebalanced s across (dropped (m .alive) (withMerges t m)))) .running)
-        pick true = f
-        pick false = balanced-fine s across (dropped (m .alive) (withMerges t m)) up′
-
-with-fine : (s : Settings) (ps : List Pair) (t : Tree) → Fine (t .running) → Fine ((mergedWith s ps t) .running)
-unfolding mergedWith
-with-fine s [] t f = by-fine s true (cousins s t (t .nodes)) t f
-with-fine s (p ∷ ps) t f = by-fine s false (p ∷ ps) t f
-
 rebuilt-fine : (s : Settings) (t : Tree) → Fine (t .running) → Fine ((rebuilt s t) .running)
-unfolding rebuilt counted onRunning withRebuilds
 rebuilt-fine s t f =
-    let v = mergedWith s (siblings s t (t .nodes)) t in
-    subst Fine (sym (refolded-running s v)) (with-fine s (siblings s t (t .nodes)) t f)
+    rebuilt-walk s t (λ _ u. Fine (u .running)) (λ _. f) (λ _. thin)
+    (subst Fine (sym (reinserted-running s (onRunning (withMerged 0) (thinned t (mergesIn s t))))) (unfold onRunning withMerged in thin))
+    (λ _ u q. subst Fine (sym (refolded-running s u)) q) (λ _ u q. unfold counted onRunning withRebuilds in q)
+  where
+    thin : Fine (thinned t (mergesIn s t) .running)
+    thin =
+        unfold dropped withMerges mergesOn withMerged withThreshold onRunning withEntries withNodes in raised-fine (t .running .threshold)
+        (mergesIn s t .widest) f
 
 pub inserted-fine : (s : Settings) (x : List Float) (t : Tree) → Fine (t .running) → Fine ((inserted s x t) .running)
 unfolding inserted

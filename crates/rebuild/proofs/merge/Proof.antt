@@ -44,7 +44,7 @@ returns c =
     let paired = (c .before .before .before .before .before .before .before .before .before .before .before .before .before .before .before .before .before .before) in
     let start = start paired in
     let new = c .before .before .before .before .before .before .before .before .merge-by in
-    (new .ensures .0, new .ensures .1 ∙ by-siblings (start .args .s) (tree start) _ _ _ _ (paired .sibling-pairs .ensures .0) (test .taken))
+    (new .ensures .0, new .ensures .1 ∙ by-siblings (start .args .s) (tree start) _ _ _ (paired .sibling-pairs .ensures .0) (test .taken))
 
 cousin-pairs-requires : tie.Need-cousin-pairs-requires
 cousin-pairs-requires c κs =
@@ -83,7 +83,7 @@ returns-2 c =
     let start = start paired in
     let new = c .before .before .before .before .before .before .before .before .merge-by2 in (
       new .ensures .0,
-      new .ensures .1 ∙ by-cousins (start .args .s) (tree start) _ _ _ _ (paired .sibling-pairs .ensures .0)
+      new .ensures .1 ∙ by-cousins (start .args .s) (tree start) _ _ _ (paired .sibling-pairs .ensures .0)
           (again .before .before .before .before .before .if1 .left) _ (again .cousin-pairs .ensures .0),
     )
 

@@ -23,12 +23,12 @@ use Rattle.rules.specs.Rebuild.{Merging, renumber, dropped, withMerges, rebalan
 use Rattle.rules.specs.Refit.{refitted}
 use Rattle.rules.specs.Check.{linked}
 use Rattle.rules.specs.Computes.{computes}
-use Rattle.laws.specs.Demand.{takerOf, taker, mergedTo, reinsertedTo, rebalancedTo, ownersIn, ownersAll, refitOwners, ownersRefit, wayUp, pathUp}
+use Rattle.laws.specs.Demand.{called, originsOf, standing, originAt, takerOf, taker, mergedTo, reinsertedTo, rebalancedTo, ownersIn, ownersAll, refitOwners, ownersRefit, wayUp, pathUp}
 use Rattle.bites.specs.Told.{told}
-use Rattle.bites.specs.Formed.{formed}
+use Rattle.bites.specs.Formed.{alone, formed}
 use Rattle.bites.specs.Spared.{sameNumbers, kept, spared}
 use Rattle.bites.specs.Fitting.{roomy, trusted}
-use Rattle.bites.specs.Steps.{batch, owning, renumbering, refittingOwners, joining, growing, splitting, merging, rebuilding, reinserting, pouring, checking}
+use Rattle.bites.specs.Steps.{batch, lending, owning, renumbering, refittingOwners, joining, growing, splitting, merging, rebuilding, reinserting, pouring, checking}
 use Rattle.counting.specs.Places.{placeIn}
 use Rattle.rules.specs.Route.{greedy}
 use Rattle.rules.specs.Rows.{insertedAll}
@@ -70,6 +70,15 @@ even = insertedAll (with 2 24) three (fresh f0)
 abbrev one-each : List ℕ
 one-each = 0 ∷ 1 ∷ 2 ∷ []
 
+-- a lent entry's rows are as many as it weighs, and its own
+lending-owns : told uneven (lending (uneven .entries)) ≡ true
+unfolding computes told lending standing
+lending-owns = refl
+
+lending-forms : formed (with 2 24) (originsOf (even .entries)) even (lending (even .entries)) ≡ true
+unfolding computes formed alone originAt sameNumbers originsOf lending standing
+lending-forms = refl
+
 -- a batch gives each of its rows to one entry
 batch-owns : told (batch (with 2 24) six (fresh f0)) (ownersAll (with 2 24) six (fresh f0) []) ≡ true
 unfolding computes told batch takerOf taker ownersIn ownersAll
@@ -87,21 +96,21 @@ unfolding computes told reinserting reinsertedTo placeIn
 reinserting-owns = refl
 
 -- each row's place names the entry that took it
-owning-forms : formed (with 2 24) three even (owning (with 2 24) three (fresh f0) []) ≡ true
-unfolding computes formed sameNumbers owning takerOf taker ownersIn
+owning-forms : formed (with 2 24) (map called three) even (owning (with 2 24) three (fresh f0) []) ≡ true
+unfolding computes formed alone originAt sameNumbers owning takerOf taker ownersIn
 owning-forms = refl
 
 -- reinsertion hands each entry's rows to that entry, also where others weigh as much
-renumbering-forms : formed (with 2 24) three (rebalanced (with 2 24) true even) (map (renumbering (with 2 24) even) one-each) ≡ true
-unfolding computes formed sameNumbers renumbering rebalancedTo reinsertedTo placeIn
+renumbering-forms : formed (with 2 24) (map called three) (rebalanced (with 2 24) true even) (map (renumbering (with 2 24) even) one-each) ≡ true
+unfolding computes formed alone originAt sameNumbers renumbering rebalancedTo reinsertedTo placeIn
 renumbering-forms = refl
 
 -- a refit's rows are named in its own order
 abbrev again : List (List Float)
 again = 10r ∷ 0r ∷ 1r ∷ []
 
-refitting-forms : formed (with 2 24) again (refitted (with 2 24) (greedy (with 2 24)) again even) (refittingOwners (with 2 24) again even one-each) ≡ true
-unfolding computes formed sameNumbers refittingOwners ownersRefit refitOwners reinsertedTo placeIn
+refitting-forms : formed (with 2 24) (map called again) (refitted (with 2 24) (greedy (with 2 24)) again even) (refittingOwners (with 2 24) again even one-each) ≡ true
+unfolding computes formed alone originAt sameNumbers refittingOwners ownersRefit refitOwners reinsertedTo placeIn
 refitting-forms = refl
 
 -- a merge leaves the rows of both to one

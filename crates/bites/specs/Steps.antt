@@ -12,7 +12,7 @@ use Rattle.rules.specs.declared.Nearest.the-variants.{Entry, Nothing}
 use Rattle.rules.specs.declared.Verdict.{Verdict}
 use Rattle.rules.specs.declared.Verdict.the-variants.{Passes, Fails}
 use Rattle.rules.specs.declared.Pair.{Pair}
-use Rattle.rules.specs.Lists.{changeAt, snoc, keep, flip}
+use Rattle.rules.specs.Lists.{changeAt, snoc, keep, flip, upFrom}
 use Rattle.rules.specs.Tree.{Node, Tree, push, distTo, blankNode, nodeAt, entryAt, withNodes}
 use Rattle.rules.specs.Split.{stays, half, split}
 use Rattle.rules.specs.Insert.{absorbed, absorbedOrBegun, grown, rowItem}
@@ -21,7 +21,7 @@ use Rattle.rules.specs.Refold.{refolded}
 use Rattle.rules.specs.Rebuild.{Merging, mergeOne, counted, rebuilt}
 use Rattle.rules.specs.Check.{checked}
 use Rattle.counting.specs.Places.{placeIn}
-use Rattle.laws.specs.Demand.{taker, rebalancedTo, ownersIn, ownersRefit}
+use Rattle.laws.specs.Demand.{standing, taker, rebalancedTo, ownersIn, ownersRefit}
 use Rattle.rules.specs.Route.{greedy}
 use Rattle.rules.specs.Rows.{inserted, insertedAll}
 
@@ -29,7 +29,10 @@ unfoldable pub batch : Settings → List (List Float) → Tree → Tree
 batch s [] t = t
 batch s (x ∷ xs) t = insertedAll s (x ∷ xs) t
 
--- the account of a batch, of a rebuild's reinsertion and of a refit
+-- the account of a lent tree, of a batch, of a rebuild's reinsertion and of a refit
+unfoldable pub lending : List Summary → List ℕ
+lending es = standing 0 es
+
 unfoldable pub owning : Settings → List (List Float) → Tree → List ℕ → List ℕ
 owning s [] t a = a
 owning s (x ∷ xs) t a = owning s xs (inserted s x t) (ownersIn s x t a)

@@ -1,14 +1,15 @@
 -- Demand 3, as it is stated: what a reader has to believe of it, and nothing else.
--- `Runs.Public.calls-keep` proves `Promise` at the end of any `Calls`, and `Runs.Public.calls-local` proves `Local` of any row without a rebuild.
+-- `Runs.Public.calls-keep` proves `Promise` at the end of any `Calls`, `Runs.Created.created-keeps` what a start from creation adds to it,
+-- and `Runs.Public.calls-local` proves `Local` of any row without a rebuild.
 use Prim.Native.Nat.{ℕ, zero, suc, _+_, _-_, _/_, _≤_, _<_}
 use mathlib.Core.Path.{_≡_}
 use mathlib.Core.Logic.{_⊎_}
 use mathlib.Core.Bool.{Bool, true, false, _||_, _&&_, not, cond}
 use mathlib.Core.List.{List, [], _∷_, _++_, map, reverse}
 use mathlib.Core.Option.{Option, none, some}
-use lib.ListN.{length, getD}
-use lib.Dec.{leb, ltb, eqb}
-use lib.Ieee.{Float}
+use lib.ListN.{length, getD, replicate}
+use lib.Dec.{T, leb, ltb, eqb}
+use lib.Ieee.{Float, eq, binary64, fits}
 use Rattle.binary64.specs.Whole.{whole, most}
 use Rattle.feature.specs.declared.Summary.{Summary}
 use Rattle.feature.specs.Summaries.{blank}
@@ -22,8 +23,8 @@ use Rattle.rules.specs.declared.Nearest.{Nearest}
 use Rattle.rules.specs.declared.Nearest.the-variants.{Entry, Nothing}
 use Rattle.rules.specs.declared.Pair.{Pair}
 use Rattle.rules.specs.declared.Verdict.the-variants.{Passes}
-use Rattle.rules.specs.Lists.{changeAt, snoc, occurs, every, rowsOf}
-use Rattle.rules.specs.Tree.{push, merge, distTo, Tree, nodeAt, entryAt, withEntries, onRunning}
+use Rattle.rules.specs.Lists.{changeAt, snoc, occurs, every, rowsOf, upFrom}
+use Rattle.rules.specs.Tree.{push, merge, distTo, Tree, nodeAt, entryAt, withEntries, onRunning, rowsIn}
 use Rattle.rules.specs.Descent.{searched, leafFor, alongPath}
 use Rattle.rules.specs.Insert.{grown, absorbs, rowItem, Item}
 use Rattle.rules.specs.Pairs.{sorted}
@@ -38,7 +39,24 @@ use Rattle.head.specs.Counting.{withMerged}
 use Rattle.rules.specs.Route.{greedy, Route}
 use Rattle.rules.specs.Rows.{inserted}
 
+-- ---- the rows that are accounted for, in order of arrival
+
+-- where a row comes from: it is a row of a call, or the k-th of the rows that an entry of the lent tree stands for
+pub data Origin : Type 0 where
+  called : List Float → Origin
+  behind : Summary → ℕ → Origin
+
+-- a lent tree's rows: for each entry as many as it weighs
+unfoldable pub originsOf : List Summary → List Origin
+originsOf [] = []
+originsOf (e ∷ es) = map (behind e) (upFrom (rowsIn e) 0) ++ originsOf es
+
 -- ---- whose each row is: an account beside the tree, the owner of each row in order of arrival, moved by the numbers that each step uses
+
+-- of a lent tree: each of its rows is its entry's, from number i on
+unfoldable pub standing : ℕ → List Summary → List ℕ
+standing i [] = []
+standing i (e ∷ es) = replicate (rowsIn e) i ++ standing (suc i) es
 
 -- the entry that takes an item: the nearest one of its leaf that absorbs it, or a new one
 unfoldable pub takerOf : Item → Nearest → Tree → ℕ
@@ -113,12 +131,11 @@ unfoldable pub effective : List (List Float) → Tree → Bool
 effective [] t = false
 effective (x ∷ xs) t = not (eqb (length (t .entries)) 0)
 
-unfoldable pub rowsRefit : List (List Float) → Tree → List (List Float) → List (List Float)
-rowsRefit xs t ys = cond (effective xs t) xs ys
+unfoldable pub rowsRefit : List (List Float) → Tree → List Origin → List Origin
+rowsRefit xs t ys = cond (effective xs t) (map called xs) ys
 
--- the rows of a batch
-unfoldable pub rowsIn : Head → List Float → List (List Float)
-rowsIn h xs = rowsOf (length xs / settingsOf h .dim) (settingsOf h .dim) xs
+unfoldable pub batchRows : Head → List Float → List (List Float)
+batchRows h xs = rowsOf (length xs / settingsOf h .dim) (settingsOf h .dim) xs
 
 -- new if the call is accepted; a refused one leaves the old
 unfoldable pub after : {A : Type 0} → Answer → A → A → A
@@ -132,26 +149,34 @@ pub data Reading (h : Head) (fs : List Float) (ls : List ℕ) : Type 0 where
   validation : (o : Answer) → o ≡ validated h fs ls → Reading h fs ls
   listing : (o : Listed) → o ≡ listed h fs ls → Reading h fs ls
 
--- From an accepted creation through any public calls: the head and the two buffers of the tree, the rows since the last effective refit with that refit's own,
--- and whose each of these rows is. Each call is given any rows and any scratch, and may be refused.
-pub data Calls : Head → List Float → List ℕ → List (List Float) → List ℕ → Type 0 where
-  create : (h : Head) (fs : List Float) (ls : List ℕ) → created h fs ls .answer ≡ Accepted
-      → Calls (created h fs ls .head) (created h fs ls .floats) (created h fs ls .links) [] []
-  row : {h : Head} (l : Lent) {ys : List (List Float)} {a : List ℕ} (x : List Float) (o : Left) → o ≡ rowInserted h l x → Calls h (l .floats) (l .links) ys a
-      → Calls (o .head) (o .lent .floats) (o .lent .links) (after (o .answer) (ys ++ (x ∷ [])) ys)
+-- the floats are of binary64, as every number of a lent slice is
+pub record Binary64 (t : Tree) : Type 0 where
+  pub nodes-fit : (k : ℕ) → k < length (t .nodes) → T (fits binary64 (nodeAt t k .summary .weight))
+  pub entries-fit : (c : ℕ) → c < length (t .entries) → T (fits binary64 (entryAt t c .weight))
+
+-- From a head and buffers that `validate` accepts through any public calls: the head and the two buffers of the tree, the rows since the last effective refit
+-- with that refit's own, or since the start with those of the tree that was lent, and whose each of these rows is.
+-- Each call is given any rows and any scratch, and may be refused.
+pub data Calls (h₀ : Head) (fs₀ : List Float) (ls₀ : List ℕ) : Head → List Float → List ℕ → List Origin → List ℕ → Type 0 where
+  start : Binary64 (lentTree h₀ fs₀ ls₀) → validated h₀ fs₀ ls₀ ≡ Accepted
+      → Calls h₀ fs₀ ls₀ h₀ fs₀ ls₀ (originsOf (lentTree h₀ fs₀ ls₀ .entries)) (standing 0 (lentTree h₀ fs₀ ls₀ .entries))
+  row : {h : Head} (l : Lent) {ys : List Origin} {a : List ℕ} (x : List Float) (o : Left) → o ≡ rowInserted h l x
+      → Calls h₀ fs₀ ls₀ h (l .floats) (l .links) ys a
+      → Calls h₀ fs₀ ls₀ (o .head) (o .lent .floats) (o .lent .links) (after (o .answer) (ys ++ (called x ∷ [])) ys)
       (after (o .answer) (ownersIn (settingsOf h) x (lentTree h (l .floats) (l .links)) a) a)
-  batch : {h : Head} (l : Lent) {ys : List (List Float)} {a : List ℕ} (xs : List Float) (o : Left) → o ≡ batchInserted h l xs
-      → Calls h (l .floats) (l .links) ys a
-      → Calls (o .head) (o .lent .floats) (o .lent .links) (after (o .answer) (ys ++ rowsIn h xs) ys)
-      (after (o .answer) (ownersAll (settingsOf h) (rowsIn h xs) (lentTree h (l .floats) (l .links)) a) a)
-  refitAll : {h : Head} (l : Lent) {ys : List (List Float)} {a : List ℕ} (xs : List Float) (o : Left) → o ≡ batchRefitted h l xs
-      → Calls h (l .floats) (l .links) ys a
-      → Calls (o .head) (o .lent .floats) (o .lent .links) (after (o .answer) (rowsRefit (rowsIn h xs) (lentTree h (l .floats) (l .links)) ys) ys)
-      (after (o .answer) (ownersRefit (settingsOf h) (greedy (settingsOf h)) (rowsIn h xs) (lentTree h (l .floats) (l .links)) a) a)
-  createAgain : {h : Head} {fs : List Float} {ls : List ℕ} {ys : List (List Float)} {a : List ℕ} (r : Refusal) → created h fs ls .answer ≡ Refused r
-      → Calls h fs ls ys a
-      → Calls (created h fs ls .head) (created h fs ls .floats) (created h fs ls .links) ys a
-  read : {h : Head} {fs : List Float} {ls : List ℕ} {ys : List (List Float)} {a : List ℕ} → Reading h fs ls → Calls h fs ls ys a → Calls h fs ls ys a
+  batch : {h : Head} (l : Lent) {ys : List Origin} {a : List ℕ} (xs : List Float) (o : Left) → o ≡ batchInserted h l xs
+      → Calls h₀ fs₀ ls₀ h (l .floats) (l .links) ys a
+      → Calls h₀ fs₀ ls₀ (o .head) (o .lent .floats) (o .lent .links) (after (o .answer) (ys ++ map called (batchRows h xs)) ys)
+      (after (o .answer) (ownersAll (settingsOf h) (batchRows h xs) (lentTree h (l .floats) (l .links)) a) a)
+  refitAll : {h : Head} (l : Lent) {ys : List Origin} {a : List ℕ} (xs : List Float) (o : Left) → o ≡ batchRefitted h l xs
+      → Calls h₀ fs₀ ls₀ h (l .floats) (l .links) ys a
+      → Calls h₀ fs₀ ls₀ (o .head) (o .lent .floats) (o .lent .links) (after (o .answer) (rowsRefit (batchRows h xs) (lentTree h (l .floats) (l .links)) ys) ys)
+      (after (o .answer) (ownersRefit (settingsOf h) (greedy (settingsOf h)) (batchRows h xs) (lentTree h (l .floats) (l .links)) a) a)
+  createAgain : {h : Head} {fs : List Float} {ls : List ℕ} {ys : List Origin} {a : List ℕ} (r : Refusal) → created h fs ls .answer ≡ Refused r
+      → Calls h₀ fs₀ ls₀ h fs ls ys a
+      → Calls h₀ fs₀ ls₀ (created h fs ls .head) (created h fs ls .floats) (created h fs ls .links) ys a
+  read : {h : Head} {fs : List Float} {ls : List ℕ} {ys : List Origin} {a : List ℕ} → Reading h fs ls → Calls h₀ fs₀ ls₀ h fs ls ys a
+      → Calls h₀ fs₀ ls₀ h fs ls ys a
 
 -- ---- what an account says
 
@@ -160,45 +185,36 @@ unfoldable pub rowsAmong : List ℕ → List ℕ → ℕ
 rowsAmong l [] = 0
 rowsAmong l (c ∷ a) = cond (ltb 0 (occurs c l)) (suc (rowsAmong l a)) (rowsAmong l a)
 
--- each row belongs to one entry; an entry's weight is the count of its rows, and a node's that of the rows beneath it
+-- each row belongs to one entry; an entry's weight is the count of its rows, and a node's that of the rows beneath it, where −0.0 counts as 0
 pub record Account (t : Tree) (a : List ℕ) : Type 0 where
   pub owners : (i : ℕ) → i < length a → getD a i 0 < length (t .entries)
   pub entries : (c : ℕ) → c < length (t .entries) → entryAt t c .weight ≡ whole (occurs c a)
-  pub nodes : (k : ℕ) → k < length (t .nodes) → nodeAt t k .summary .weight ≡ whole (rowsAmong (collected t (length (t .nodes)) (k ∷ [])) a)
+  pub nodes : (k : ℕ) → k < length (t .nodes) → eq (whole (rowsAmong (collected t (length (t .nodes)) (k ∷ [])) a)) (nodeAt t k .summary .weight) ≡ true
 
 -- ---- what an entry is made of: rows, each named by its place in order of arrival, and merges
 
--- empty; or the row at a place pushed into another; or a second one merged into a first
-pub data Making : Type 0 where
-  empty : Making
-  taking : ℕ → Making → Making
-  joining : Making → Making → Making
+-- past the end stands a row behind an empty summary, of which nothing is made
+unfoldable pub originAt : List Origin → ℕ → Origin
+originAt ys i = getD ys i (behind blank 0)
 
--- the summary that a making gives, where ys are the rows in order of arrival
-unfoldable pub madeOf : Settings → List (List Float) → Making → Summary
-madeOf s ys empty = blank
-madeOf s ys (taking i m) = push s (getD ys i []) (madeOf s ys m)
-madeOf s ys (joining m n) = merge s (madeOf s ys m) (madeOf s ys n)
-
--- how often a making pushes the row at place i
-unfoldable pub uses : Making → ℕ → ℕ
-uses empty i = 0
-uses (taking j m) i = is i j + uses m i
-uses (joining m n) i = uses m i + uses n i
+-- e is made of rows of ys, the one at place i used p i times: an empty summary of none; a call's row pushed into what is made;
+-- a lent entry as it came, of all rows behind it; a second one merged into a first
+pub data Made (s : Settings) (ys : List Origin) : Summary → (ℕ → ℕ) → Type 0 where
+  empty : Made s ys blank (λ _. 0)
+  taking : {e : Summary} {p : ℕ → ℕ} (i : ℕ) (x : List Float) → originAt ys i ≡ called x → Made s ys e p → Made s ys (push s x e) (λ j. is j i + p j)
+  lent : (e : Summary) (i : ℕ) → 0 < rowsIn e → ((k : ℕ) → k < rowsIn e → originAt ys (i + k) ≡ behind e k)
+      → Made s ys e (λ j. occurs j (upFrom (rowsIn e) i))
+  joining : {e f : Summary} {p q : ℕ → ℕ} → Made s ys e p → Made s ys f q → Made s ys (merge s e f) (λ j. p j + q j)
+  -- the same counts, said otherwise
+  alike : {e : Summary} {p q : ℕ → ℕ} → Made s ys e p → ((j : ℕ) → q j ≡ p j) → Made s ys e q
 
 -- 1 if the account a gives the row at place i to entry c; 0 if it gives it to another, or has no such place
 unfoldable pub owns : List ℕ → ℕ → ℕ → ℕ
 owns a c i = getD (map (is c) a) i 0
 
--- e is made of rows of ys by pushes and merges alone, and the row at place i is pushed p i times
-pub record Made (s : Settings) (ys : List (List Float)) (e : Summary) (p : ℕ → ℕ) : Type 0 where
-  pub making : Making
-  pub gives : madeOf s ys making ≡ e
-  pub pushes : (i : ℕ) → uses making i ≡ p i
-
 -- ---- the promise
 
-pub record Promise (s : Settings) (t : Tree) (ys : List (List Float)) (a : List ℕ) : Type 0 where
+pub record Promise (s : Settings) (t : Tree) (ys : List Origin) (a : List ℕ) : Type 0 where
   -- at most max_leaves entries
   pub few : length (t .entries) ≤ s .«max_leaves»
   -- each listed once, and nothing else listed
@@ -209,9 +225,16 @@ pub record Promise (s : Settings) (t : Tree) (ys : List (List Float)) (a : List 
   pub exact : length a ≤ most
   -- the account gives each row one entry, each entry the count of its rows as weight, and each node the count of rows beneath it
   pub account : Account t a
-  -- each entry is made of just the rows that the account gives it: each of them pushed once, no other row, and merges
+  -- each entry is made of just the rows that the account gives it: each of them once, no other row, and merges
   pub made : (c : ℕ) → c < length (t .entries) → Made s ys (entryAt t c) (owns a c)
   pub passes : checked s t ≡ Passes
+
+-- From creation, besides: every row is a row of a call, so that an entry is made by pushing its rows and by merges alone;
+-- and each node's weight is the float of its count, an empty root's too.
+pub record FromCreation (t : Tree) (ys : List Origin) (a : List ℕ) : Type 0 where
+  pub rows : List (List Float)
+  pub called-all : ys ≡ map called rows
+  pub nodes : (k : ℕ) → k < length (t .nodes) → nodeAt t k .summary .weight ≡ whole (rowsAmong (collected t (length (t .nodes)) (k ∷ [])) a)
 
 -- ---- one row's insert without a rebuild, from t to u; so of whatever else goes in at a leaf l
 

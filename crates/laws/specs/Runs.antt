@@ -1,10 +1,12 @@
--- From creation through any calls.
+-- From a tree that passes the check through any calls; from creation among them.
 pub mod Merged
 pub mod Threshold
 pub mod Calls
-pub mod Runs
 pub mod Lent
+pub mod Runs
 pub mod Fitting
+pub mod Serving
 pub mod OneCall
 pub mod Public
+pub mod Created
 pub mod Clears

@@ -24,7 +24,7 @@ use Rattle.rules.specs.Listing.{andThen, badLine, taken, headFrom, firstLine, r
 use Rattle.laws.specs.Shapes.{fresh-shaped}
 use Rattle.laws.specs.Runs.Calls.{fresh-rests}
 use Rattle.laws.specs.Runs.Fitting.{resting-fits}
-use Rattle.laws.specs.Runs.OneCall.{Public, after-create}
+use Rattle.laws.specs.Runs.Serving.{Serving, created-fresh}
 use Rattle.reasons.specs.declared.Reason.{Reason}
 use Rattle.lines.specs.declared.Run.{Run}
 use Rattle.lines.specs.declared.Stage.the-variants as Stages
@@ -127,10 +127,10 @@ module _ (h : Head) (ok : Taken h) (fs : List Float) (ks : List ℕ) (floats-roo
   unfolding created
   as-made = ap (λ rs. madeBy rs h fs ks) none-refused
 
-  made-public : Public (madeBy [] h fs ks .head) (madeBy [] h fs ks .floats) (madeBy [] h fs ks .links) [] []
-  made-public =
+  made-serving : Serving (madeBy [] h fs ks .head) (madeBy [] h fs ks .floats) (madeBy [] h fs ks .links) 0
+  made-serving =
       let accepts : created h fs ks .answer ≡ Accepted = ap (λ (o : Made). o .answer) as-made ∙ (unfold madeBy in refl) in
-      subst (λ (o : Made). Public (o .head) (o .floats) (o .links) [] []) as-made (after-create h fs ks accepts)
+      subst (λ (o : Made). Serving (o .head) (o .floats) (o .links) 0) as-made (created-fresh h fs ks accepts .serving)
 
   made-tree : lentTree (madeBy [] h fs ks .head) (madeBy [] h fs ks .floats) (madeBy [] h fs ks .links) ≡ fresh x
   unfolding madeBy changed newCounters countersOf fresh
@@ -153,7 +153,7 @@ module _ (h : Head) (ok : Taken h) (fs : List Float) (ks : List ℕ) (floats-roo
   unfolding Stands listed listedAt
   made-read run l e = record {
     none-left = refl;
-    stands = record { rows = []; owners = []; public = made-public; number = refl; few = (unfold madeBy withCounters in ok .0) };
+    stands = record { rows = 0; serving = made-serving; number = refl; few = (unfold madeBy withCounters in ok .0) };
     reads = (λ ls.
         let same : settingsOf (madeBy [] h fs ks .head) ≡ s = unfold madeBy withCounters settingsOf in refl in
         ap (λ q. rowsListed q 2 ls (lentTree (madeBy [] h fs ks .head) (madeBy [] h fs ks .floats) (madeBy [] h fs ks .links))) same

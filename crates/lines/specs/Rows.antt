@@ -33,8 +33,8 @@ use Rattle.laws.specs.Check.Both.{AtRest, resting-passes}
 use Rattle.laws.specs.Runs.Calls.{row-rests}
 use Rattle.laws.specs.Runs.Fitting.{resting-fits}
 use Rattle.laws.specs.Runs.Threshold.{inserted-fine}
-use Rattle.laws.specs.Runs.Runs.{rest-total, run-owning}
-use Rattle.laws.specs.Runs.OneCall.{Public, sizes-of, next}
+use Rattle.laws.specs.Runs.Runs.{rest-total}
+use Rattle.laws.specs.Runs.Serving.{Serving, sizes-of, left-tree, serving-next}
 use Rattle.text.specs.declared.RowLine.{RowLine}
 use Rattle.text.specs.declared.RowLine.the-variants.{Row, Malformed}
 use Rattle.text.specs.Rows.{RowRead, floatsIn, row-listed, malformed-listed}
@@ -49,14 +49,11 @@ use Rattle.rules.specs.Rows.{inserted, insertedAll}
 -- ---- what a grown tree gives
 
 module _ {n : ℕ} {h : Head} {fs : List Float} {ks : List ℕ} (g : Grown n h fs ks) where
-  pub grown-rests : AtRest (settingsOf h) (lentTree h fs ks) (length (g .rows))
-  grown-rests = run-owning (sizes-of (g .public)) (g .public .run) .rests
-
   pub grown-passes : checked (settingsOf h) (lentTree h fs ks) ≡ Passes
-  grown-passes = resting-passes (settingsOf h) (lentTree h fs ks) (length (g .rows)) grown-rests
+  grown-passes = resting-passes (settingsOf h) (lentTree h fs ks) (g .rows) (g .serving .rests)
 
   pub grown-total : totalOf (lentTree h fs ks .entries) + 2 ≡ n
-  grown-total = let e = rest-total grown-rests in let k = g .number in omega arith
+  grown-total = let e = rest-total (g .serving .rests) in let k = g .number in omega arith
 
   pub grown-few : settingsOf h .«max_leaves» ≤ 24
   unfolding settingsOf
@@ -101,7 +98,7 @@ module _ (run : Run) (l : Lent) (g : Grown (run .number) (run .head) (l .floats)
   u = inserted s x t
 
   sized : Sized s
-  sized = sizes-of (g .public)
+  sized = sizes-of (g .serving)
 
   -- what the call asks for
   pub ready : Ready h l
@@ -112,7 +109,7 @@ module _ (run : Run) (l : Lent) (g : Grown (run .number) (run .head) (l .floats)
       let c = scratch-enough s sized few in
       let d = numbers-enough s sized few in
       record {
-        allows = g .public .allows;
+        allows = g .serving .allows;
         floats-room = (let p = room .floats-room in omega arith);
         links-room = (let p = room .links-room in omega arith);
         scratch-floats-room = (let p = room .scratch-room in omega arith);
@@ -122,7 +119,7 @@ module _ (run : Run) (l : Lent) (g : Grown (run .number) (run .head) (l .floats)
 
   pub workable : run .number ≤ most + 1 → Workable Insert s 1 t
   unfolding Workable
-  workable k = record { rows = length (g .rows); rests = grown-rests g; room = (let n = g .number in omega arith) }
+  workable k = record { rows = g .rows; rests = g .serving .rests; room = (let n = g .number in omega arith) }
 
   module _ (e : length x ≡ run .head .dim) where
     full-wrong : most + 1 < run .number → rowAsked s t x ≡ Full ∷ []
@@ -148,21 +145,14 @@ module _ (run : Run) (l : Lent) (g : Grown (run .number) (run .head) (l .floats)
 
       shaped-next : ShapedTree s u
       unfolding insertedAll
-      shaped-next = batch-shaped s (x ∷ []) t (g .public .shaped)
+      shaped-next = batch-shaped s (x ∷ []) t (g .serving .shaped)
 
-      run-next : Past.Run s (g .public .threshold) u (g .rows ++ (x ∷ [])) (ownersAll s (x ∷ []) t (g .owners))
-      unfolding insertedAll
-      run-next = Past.insert {t = t} (x ∷ []) (let n = grown-total g in omega arith) (g .public .run)
-
-      public-next : Public (changed h l u .head) (changed h l u .lent .floats) (changed h l u .lent .links) (g .rows ++ (x ∷ []))
-          (ownersAll s (x ∷ []) t (g .owners))
-      public-next = next h l (g .public) u (g .rows ++ (x ∷ [])) (ownersAll s (x ∷ []) t (g .owners)) (inserted-fine s x t) run-next shaped-next
+      rests-next : AtRest s u (suc (g .rows))
+      rests-next = row-rests sized x t (g .rows) (g .serving .rests) (let n = g .number in omega arith)
 
       tree-is : lentTree (o .head) (o .lent .floats) (o .lent .links) ≡ u
       tree-is =
-          let rests = row-rests sized x t (length (g .rows)) (grown-rests g) (let n = g .number in omega arith) in
-          ap (λ (o : Left). lentTree (o .head) (o .lent .floats) (o .lent .links)) as-changed
-          ∙ changed-tree h l u sized (resting-fits sized u (suc (length (g .rows))) rests shaped-next)
+          ap (λ (o : Left). lentTree (o .head) (o .lent .floats) (o .lent .links)) as-changed ∙ left-tree h l (g .serving) u rests-next shaped-next
 
       head-is : o .head ≡ withCounters h (countersOf u)
       head-is = ap (λ (o : Left). o .head) as-changed ∙ (unfold changed in refl)
@@ -172,11 +162,10 @@ module _ (run : Run) (l : Lent) (g : Grown (run .number) (run .head) (l .floats)
 
       grown-next : Grown (run .number + 1) (o .head) (o .lent .floats) (o .lent .links)
       grown-next = record {
-        rows = g .rows ++ (x ∷ []);
-        owners = ownersAll s (x ∷ []) t (g .owners);
-        public = subst (λ (o : Left). Public (o .head) (o .lent .floats) (o .lent .links) (g .rows ++ (x ∷ [])) (ownersAll s (x ∷ []) t (g .owners)))
-            (sym as-changed) public-next;
-        number = (let j = length-append (g .rows) (x ∷ []) in let n = g .number in omega arith);
+        rows = suc (g .rows);
+        serving = subst (λ (o : Left). Serving (o .head) (o .lent .floats) (o .lent .links) (suc (g .rows))) (sym as-changed)
+            (serving-next h l (g .serving) u rests-next shaped-next (inserted-fine s x t));
+        number = (let n = g .number in omega arith);
         few = subst (λ (q : Head). q .«max_leaves» ≤ 24) (sym head-is) (unfold withCounters in g .few);
       }
 

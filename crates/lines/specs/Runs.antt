@@ -14,7 +14,7 @@ use Rattle.head.specs.Heads.{settingsOf}
 use Rattle.rules.specs.Tree.{Tree}
 use Rattle.rules.specs.Calls.{lentTree}
 use Rattle.rules.specs.Listing.{cut, linesOf, badLine, rowsListed, linesListed, rowlist}
-use Rattle.laws.specs.Runs.OneCall.{Public}
+use Rattle.laws.specs.Runs.Serving.{Serving}
 use Rattle.reasons.specs.declared.Reason.{Reason}
 use Rattle.lines.specs.declared.Stage.{Stage}
 use Rattle.lines.specs.declared.Stage.the-variants as Stages
@@ -89,10 +89,9 @@ rows-room r = record {
 
 -- line n is next: the lines before it are the first and a row each, and the slices hold the tree of these rows
 pub record Grown (n : ℕ) (h : Head) (fs : List Float) (ks : List ℕ) : Type 0 where
-  pub rows : List (List Float)
-  pub owners : List ℕ
-  pub public : Public h fs ks rows owners
-  pub number : n ≡ length rows + 2
+  pub rows : ℕ
+  pub serving : Serving h fs ks rows
+  pub number : n ≡ rows + 2
   pub few : h .«max_leaves» ≤ 24
 
 unfoldable pub Stands : Stage → Run → List Float → List ℕ → Type 0

@@ -17,14 +17,14 @@ use Rattle.rules.specs.Listing.{badLine, report, rowsListed, linesListed}
 use Rattle.arena.specs.Trees.{count-entries}
 use Rattle.validate.specs.Passing.{passing-floats, passing-counts}
 use Rattle.reports.specs.Entries.{Reportable}
-use Rattle.laws.specs.Runs.OneCall.{sizes-of}
+use Rattle.laws.specs.Runs.Serving.{sizes-of}
 use Rattle.reasons.specs.declared.Reason.{Reason}
 use Rattle.lines.specs.declared.Stage.{Stage}
 use Rattle.lines.specs.declared.Stage.the-variants as Stages
 use Rattle.lines.specs.declared.Run.{Run}
 use Rattle.lines.specs.Runs.{listedAt, listed, Grown, Stands, stage-stands}
 use Rattle.lines.specs.Heads.{floats-enough}
-use Rattle.lines.specs.Rows.{grown-rests, grown-passes, grown-total, grown-few}
+use Rattle.lines.specs.Rows.{grown-passes, grown-total, grown-few}
 use Rattle.counting.specs.Tests.{every-at}
 
 -- a run over its rows can report, and each row weighs one
@@ -33,11 +33,11 @@ unfolding lentTree entryAt
 reportable {n} {h} {fs} {ks} g room =
     let s = settingsOf h in
     let c = h .counters in
-    let z = sizes-of (g .public) in
+    let z = sizes-of (g .serving) in
     let few = grown-few g in
     let enough = floats-enough s z few in
     let long = count-entries s c fs ks in
-    let most = grown-rests g .few in
+    let most = g .serving .rests .few in
     let total = grown-total g in
     record {
       entries = record {

@@ -19,7 +19,7 @@ use Rattle.head.specs.declared.refusal.Refusal.{Refusal}
 use Rattle.head.specs.declared.refusal.Refusal.the-variants as R
 use Rattle.head.specs.declared.refusal.Answer.{Answer}
 use Rattle.head.specs.declared.refusal.Answer.the-variants.{Accepted, Refused}
-use Rattle.rules.specs.Lists.{every, rowsOf}
+use Rattle.rules.specs.Lists.{rowsOf}
 use Rattle.rules.specs.ListLaws.{length-table}
 use Rattle.rules.specs.Tree.{Tree}
 use Rattle.rules.specs.Refit.{refitted}
@@ -62,6 +62,7 @@ pub record Roomy (h : Head) (fs : List Float) (ls : List ℕ) : Type 0 where
 
 -- a reading call that 1, 2 and 3 let through
 pub record Readable (h : Head) (fs : List Float) (ls : List ℕ) : Type 0 where
+  pub allows : allowed h ≡ true
   pub roomy : Roomy h fs ls
   pub passes : checked (settingsOf h) (lentTree h fs ls) ≡ Passes
 
@@ -79,7 +80,7 @@ module _ (h : Head) (fs : List Float) (ls : List ℕ) where
 
   pub tree-readable : treeRefusals h fs ls ≡ [] → Readable h fs ls
   unfolding treeRefusals
-  tree-readable e = let (a, b) = none-both (createRefusals h fs ls) _ e in record { roomy = create-roomy a; passes = tree-none _ b }
+  tree-readable e = let (a, b) = none-both (createRefusals h fs ls) _ e in record { allows = create-allows a; roomy = create-roomy a; passes = tree-none _ b }
 
 -- a changing call that 1, 2 and 3 let through
 pub record Ready (h : Head) (l : Lent) : Type 0 where

@@ -18,7 +18,7 @@ use Rattle.rules.specs.Check.{sized, orphan, rooted}
 use Rattle.rules.specs.Slices.{stretch, summaryIn, slotAt, treeOf}
 use Rattle.arena.specs.Numbered.{summaryAt}
 use Rattle.arena.specs.Trees.{Floats, Links, summary-at, entry-at, count-nodes, count-entries}
-use Rattle.laws.specs.Check.Taken.{Binary64}
+use Rattle.laws.specs.Demand.{Binary64}
 use Rattle.lists.specs.Lent.{holds}
 
 module _ (s : Settings) (n : Counters) (fs : List Float) (ls : List ℕ) where

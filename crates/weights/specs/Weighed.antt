@@ -30,7 +30,8 @@ use Rattle.laws.specs.Invariant.Sound.{entryWeight, nodeWeight, Settled, weight
 use Rattle.laws.specs.Check.Accept.{ranks, accepted-links}
 use Rattle.laws.specs.Check.Passing.{every-up, every-list, entries-sum, weighed-holds}
 use Rattle.laws.specs.Check.Beneath.{rows-le, rows-root, weigh-beneath}
-use Rattle.laws.specs.Check.Taken.{Binary64, node-some, taken}
+use Rattle.laws.specs.Check.Taken.{node-some, taken}
+use Rattle.laws.specs.Demand.{Binary64}
 use Rattle.laws.specs.Check.Empty.{one-node, root-zero}
 use Rattle.weights.specs.Adding.{rowsListed, addsUp, nodesAddUp, weighsNothing, summed}
 use Rattle.counting.specs.Tests.{every-at, up-at}

@@ -1,13 +1,12 @@
 -- The empty tree and the check.
 use Prim.Native.Nat.{ℕ, suc, _+_, _*_, _/_, _≤_}
 use mathlib.Core.Path.{_≡_, refl, ap, _∙_, subst}
-use mathlib.Core.Logic.{inl, inr}
 use mathlib.Core.Bool.{Bool, true, false, _&&_, _||_, true≢false, false≢true, cond}
 use mathlib.Core.List.{List, [], _∷_, _++_}
 use mathlib.Core.Option.{Option, none, some}
 use native.Mathlib.Omega.{arith}
 use lib.Dec.{T, leb, ltb, eqb, le→leb, ltb→lt, lt→ltb, eqb→eq}
-use lib.Ieee.{binary64, fits, eq, neg, ofInt}
+use lib.Ieee.{binary64, fits, eq}
 use lib.Ieee.Fits.{and-l, and-r}
 use lib.ListN.{length}
 use Rattle.binary64.specs.Whole.{whole}
@@ -22,9 +21,9 @@ use Rattle.rules.specs.Check.{onceEach, orphan, sized, rooted, listFits, nextLe
 use Rattle.rules.specs.Check.{sameKind, growing, totalOf, weighs, weighed, lowest, conditions, checked, mergedBelow, known}
 use Rattle.rules.specs.Reinsert.{collected}
 use Rattle.laws.specs.Invariant.Height.{leaves-few, levels-some}
-use Rattle.laws.specs.Inserting.First.{emptyTree, Zero, Bare}
+use Rattle.laws.specs.Inserting.First.{emptyTree, Zero, Bare, zero-eq}
 use Rattle.laws.specs.Check.Accept.{ranks, accepted-links}
-use Rattle.laws.specs.Check.Taken.{Binary64}
+use Rattle.laws.specs.Demand.{Binary64}
 use lib.Ieee.Bits.{is-true}
 use Rattle.head.specs.declared.Running.{Running}
 use Rattle.laws.specs.Running.{Below}
@@ -114,13 +113,9 @@ bare-passes s z r hz one hg =
     (is-true (leb 1 ((s .«max_leaves» + 1) * (s .«max_leaves» + 2) / 2)) (le→leb 1 ((s .«max_leaves» + 1) * (s .«max_leaves» + 2) / 2) (omega arith)))
     (leb 0 (s .«max_leaves»)) (is-true (leb 0 (s .«max_leaves»)) (le→leb 0 (s .«max_leaves») (omega arith)))
     (leb 0 (cap s true)) (is-true (leb 0 (cap s true)) (le→leb 0 (cap s true) (omega arith)))
-    (eq (whole 0) (z .weight)) (zero-eq hz)
+    (eq (whole 0) (z .weight)) (zero-eq (z .weight) hz)
     (ltb (r .merged) (s .«max_leaves»)) (is-true (ltb (r .merged) (s .«max_leaves»)) (lt→ltb (r .merged) (s .«max_leaves») hg))
   where
-    zero-eq : Zero (z .weight) → eq (whole 0) (z .weight) ≡ true
-    zero-eq (inl q) = ap (λ w. eq (whole 0) w) q ∙ (unfold ofInt eq in refl)
-    zero-eq (inr q) = ap (λ w. eq (whole 0) w) q ∙ (unfold ofInt neg eq in refl)
-
     go : (a : Bool) → a ≡ true → (b : Bool) → b ≡ true → (c : Bool) → c ≡ true → (d : Bool) → d ≡ true → (e : Bool) → e ≡ true
         → lowest 1 ((true && a && b) ∷ true ∷ ((c && true) && true) ∷ true ∷ true ∷ true ∷ (true && (d && true)) ∷ e ∷ []) ≡ Passes
     go true p true q true u true v true w = refl

@@ -7,7 +7,7 @@ use mathlib.Core.Bool.{true, false, _&&_}
 use mathlib.Core.List.{[], _∷_, map}
 use native.Mathlib.Omega.{arith}
 use lib.Dec.{T, leb, eqb, leb→le, ltb→lt, eqb→eq}
-use lib.Ieee.{binary64, fits, eq}
+use lib.Ieee.{eq}
 use lib.Ieee.Fits.{and-l, and-r}
 use lib.ListN.{length}
 use Rattle.binary64.specs.Counts.{Counts, isCount}
@@ -35,11 +35,7 @@ use Rattle.laws.specs.Check.Accept.{ranks, accepted-links}
 use Rattle.counting.specs.Tests.{every-at, up-at}
 use Rattle.rules.specs.CheckLaws.{passing-of}
 use Rattle.laws.specs.Running.{Below}
-
--- the floats are of binary64, as every number of a lent slice is
-pub record Binary64 (t : Tree) : Type 0 where
-  pub nodes-fit : (k : ℕ) → k < length (t .nodes) → T (fits binary64 (nodeAt t k .summary .weight))
-  pub entries-fit : (c : ℕ) → c < length (t .entries) → T (fits binary64 (entryAt t c .weight))
+use Rattle.laws.specs.Demand.{Binary64}
 
 module _ {s : Settings} {t : Tree} {R : ℕ → ℕ} (g : Links s (nodeAt t) (length (t .nodes)) (t .root) (length (t .entries)) R nil nil nil) (lent : Binary64 t)
     (h7 : T (weighed t)) where

@@ -7,7 +7,7 @@ use mathlib.Core.List.{List, [], _∷_}
 use mathlib.Core.Option.{none}
 use native.Mathlib.Omega.{arith}
 use lib.ListN.{length}
-use lib.Ieee.{Float, neg}
+use lib.Ieee.{Float, neg, eq, ofInt}
 use Rattle.binary64.specs.Operators.{f1, _⊕_}
 use Rattle.binary64.specs.Whole.{whole, whole-1, most}
 use Rattle.binary64.specs.Zero.{minus-zero-add}
@@ -111,6 +111,10 @@ module _ (s : Settings) (z e : Summary) (r : Running) (d : ℕ) (hz : Exactly z 
 -- a weight of zero, of either sign
 abbrev pub Zero : Float → Type 0
 Zero w = (w ≡ whole 0) ⊎ (w ≡ neg (whole 0))
+
+pub zero-eq : (w : Float) → Zero w → eq (whole 0) w ≡ true
+zero-eq w (inl q) = ap (λ w. eq (whole 0) w) q ∙ (unfold ofInt eq in refl)
+zero-eq w (inr q) = ap (λ w. eq (whole 0) w) q ∙ (unfold ofInt neg eq in refl)
 
 pub push-zero : (f : Settings) (x : List Float) (z : Summary) → Zero (z .weight) → Exactly (push f x z) 1
 push-zero f x z (inl q) = push-weigh f x z 0 (q, omega arith) (omega arith)

@@ -1,6 +1,6 @@
 -- Makings: what keeps each owner of rows made of just these rows, when a row comes and when two are merged.
 use Prim.Native.Nat.{ℕ, zero, suc, _+_, _≤_, _<_}
-use mathlib.Core.Path.{_≡_, refl, sym, ap, _∙_}
+use mathlib.Core.Path.{_≡_, refl, sym, ap, _∙_, subst}
 use mathlib.Core.Logic.{_⊎_, inl, inr, _≢_}
 use mathlib.Core.List.{List, [], _∷_, map}
 use native.Mathlib.Omega.{arith}
@@ -10,14 +10,15 @@ use Rattle.feature.specs.declared.Summary.{Summary}
 use Rattle.feature.specs.Summaries.{blank}
 use Rattle.head.specs.declared.Settings.{Settings}
 use Rattle.rules.specs.Lists.{snoc, occurs}
-use Rattle.rules.specs.Tree.{push, merge}
-use Rattle.laws.specs.Demand.{Making, empty, taking, joining, madeOf, uses, owns, Made}
+use Rattle.rules.specs.Tree.{push, rowsIn}
+use Rattle.laws.specs.Demand.{Origin, called, behind, originAt, owns, Made, empty, taking, lent, joining, alike}
+use Rattle.laws.specs.Invariant.Weights.{exact-count, blank-exact}
 use Rattle.counting.specs.Count.{is, is-same, is-other, same?, lt?}
 use Rattle.counting.specs.Sums.{occurs-here, occurs-later}
 use Rattle.counting.specs.Lists.{snoc-at, snoc-off, past-end}
 
 -- each owner of a row, of the entries E, is made of the rows that the account gives it, each pushed once, and of no others
-abbrev pub AllMade : Settings → List (List Float) → (ℕ → Summary) → List ℕ → Type 0
+abbrev pub AllMade : Settings → List Origin → (ℕ → Summary) → List ℕ → Type 0
 AllMade s ys E a = (c : ℕ) → 0 < occurs c a → Made s ys (E c) (owns a c)
 
 -- ---- places
@@ -34,7 +35,7 @@ at-plus g h (c ∷ a) zero = refl
 at-plus g h (c ∷ a) (suc i) = at-plus g h a i
 
 -- one more at the end, mapped
-pub map-snoc : {A : Type 0} (g : A → ℕ) (a : List A) (c : A) → map g (snoc a c) ≡ snoc (map g a) (g c)
+pub map-snoc : {A B : Type 0} (g : A → B) (a : List A) (c : A) → map g (snoc a c) ≡ snoc (map g a) (g c)
 unfolding snoc
 map-snoc g [] c = refl
 map-snoc g (d ∷ a) c = ap (λ l. g d ∷ l) (map-snoc g a c)
@@ -43,14 +44,6 @@ map-snoc g (d ∷ a) c = ap (λ l. g d ∷ l) (map-snoc g a c)
 owns-past : (a : List ℕ) (c i : ℕ) → length a ≤ i → owns a c i ≡ 0
 unfolding owns
 owns-past a c i h = past-end (map (is c) a) 0 i (let q = length-map a (is c) in omega arith)
-
--- whoever owns a row at place i: the account has that place
-owns-in : (a : List ℕ) (c i : ℕ) → 0 < owns a c i → i < length a
-owns-in a c i o = go (lt? i (length a))
-  where
-    go : (i < length a) ⊎ (length a ≤ i) → i < length a
-    go (inl h) = h
-    go (inr h) = let z = owns-past a c i h in absurd (omega arith)
 
 -- the new place is its taker's
 snoc-last : (a : List ℕ) (c d i : ℕ) → i ≡ length a → owns (snoc a d) c i ≡ is c d
@@ -99,77 +92,68 @@ owns-none a c i e =
 -- ---- steps of a making
 
 -- the same summary and the same places, said otherwise
-pub made-as : {s : Settings} {ys : List (List Float)} (e f : Summary) (p q : ℕ → ℕ) → Made s ys e p → e ≡ f → ((i : ℕ) → q i ≡ p i) → Made s ys f q
-made-as e f p q m h k = record { making = m .making; gives = m .gives ∙ h; pushes = (λ i. m .pushes i ∙ sym (k i)) }
+pub made-as : {s : Settings} {ys : List Origin} (e f : Summary) (p q : ℕ → ℕ) → Made s ys e p → e ≡ f → ((i : ℕ) → q i ≡ p i) → Made s ys f q
+made-as {s} {ys} e f p q m h k = subst (λ z. Made s ys z q) h (alike m k)
 
--- an empty summary is made of no rows
-made-none : {s : Settings} {ys : List (List Float)} → Made s ys blank (λ _. 0)
-made-none = record { making = empty; gives = (unfold madeOf in refl); pushes = (λ i. unfold uses in refl) }
+-- a row of a call stands for itself, one behind an entry for as many as the entry weighs
+unfoldable standsFor : Origin → ℕ
+standsFor (called x) = 1
+standsFor (behind e k) = rowsIn e
 
--- two makings merged: each pushes its own places
-pub made-both : {s : Settings} {ys : List (List Float)} (e f : Summary) (p q : ℕ → ℕ) → Made s ys e p → Made s ys f q
-    → Made s ys (merge s e f) (λ i. p i + q i)
-made-both {s} {ys} e f p q m n = record {
-  making = joining (m .making) (n .making);
-  gives = (unfold madeOf in (ap (λ x. merge s x (madeOf s ys (n .making))) (m .gives) ∙ ap (λ y. merge s e y) (n .gives)));
-  pushes = (λ i. unfold uses in (ap (λ x. x + uses (n .making) i) (m .pushes i) ∙ ap (λ y. p i + y) (n .pushes i)));
-}
+-- what something is made of stands before the end
+origin-in : (ys : List Origin) (i : ℕ) (o : Origin) → originAt ys i ≡ o → 0 < standsFor o → i < length ys
+unfolding originAt
+origin-in ys i o e h = go (lt? i (length ys))
+  where
+    none : standsFor (behind blank 0) ≡ 0
+    none = unfold standsFor in exact-count blank 0 blank-exact
 
--- a row before the last one stays at its place
-get-more : (ys : List (List Float)) (x : List Float) (i : ℕ) → i < length ys → getD (snoc ys x) i [] ≡ getD ys i []
-get-more ys x i h = snoc-off ys x [] i (λ e. clash e)
+    go : (i < length ys) ⊎ (length ys ≤ i) → i < length ys
+    go (inl l) = l
+    go (inr l) =
+        let q : standsFor o ≡ 0 = ap standsFor (sym e ∙ past-end ys (behind blank 0) i l) ∙ none in
+        absurd (omega arith)
+
+-- among rows of calls nothing stands behind an entry: what is made of them is made without lent entries
+pub none-behind : (xs : List (List Float)) (i : ℕ) (e : Summary) (k : ℕ) → 0 < rowsIn e → originAt (map called xs) i ≡ behind e k → ⊥
+unfolding originAt
+none-behind [] i e k pos q = let z : standsFor (behind e k) ≡ rowsIn e = unfold standsFor in refl in let l = origin-in [] i (behind e k) (unfold originAt in q) (omega arith) in omega arith
+none-behind (x ∷ xs) zero e k pos q = let z : _≡_ {A = ℕ} 0 1 = cc in omega arith
+none-behind (x ∷ xs) (suc i) e k pos q = none-behind xs i e k pos (unfold originAt in q)
+
+-- so it stays at its place when more rows come
+origin-kept : (ys : List Origin) (z : Origin) (i : ℕ) (o : Origin) → originAt ys i ≡ o → 0 < standsFor o → originAt (snoc ys z) i ≡ o
+unfolding originAt
+origin-kept ys z i o e h = snoc-off ys z (behind blank 0) i (λ q. clash q) ∙ e
   where
     clash : i ≡ length ys → ⊥
-    clash e = omega arith
+    clash q = let l = origin-in ys i o (unfold originAt in e) h in omega arith
 
--- a making that uses places of ys only gives the same when more rows come
-more-rows : (s : Settings) (ys : List (List Float)) (x : List Float) (m : Making) → ((i : ℕ) → 0 < uses m i → i < length ys)
-    → madeOf s (snoc ys x) m ≡ madeOf s ys m
-unfolding madeOf uses
-more-rows s ys x empty h = refl
-more-rows s ys x (taking j m) h =
-    ap (λ y. push s y (madeOf s (snoc ys x) m)) (get-more ys x j (h j (let q = is-same j j refl in omega arith)))
-    ∙ ap (λ e. push s (getD ys j []) e) (more-rows s ys x m (λ i o. h i (omega arith)))
-more-rows s ys x (joining m n) h =
-    ap (λ e. merge s e (madeOf s (snoc ys x) n)) (more-rows s ys x m (λ i o. h i (omega arith)))
-    ∙ ap (λ e. merge s (madeOf s ys m) e) (more-rows s ys x n (λ i o. h i (omega arith)))
+-- and what was made of the rows so far is still made so
+made-kept : {s : Settings} {ys : List Origin} {e : Summary} {p : ℕ → ℕ} (z : Origin) → Made s ys e p → Made s (snoc ys z) e p
+unfolding standsFor
+made-kept z empty = empty
+made-kept {s} {ys} z (taking i x o m) = taking i x (origin-kept ys z i (called x) o (omega arith)) (made-kept z m)
+made-kept {s} {ys} z (lent e i pos at) = lent e i pos (λ k h. origin-kept ys z (i + k) (behind e k) (at k h) pos)
+made-kept z (joining m n) = joining (made-kept z m) (made-kept z n)
+made-kept z (alike m h) = alike (made-kept z m) h
 
-module _ {s : Settings} (ys : List (List Float)) (x : List Float) (e : Summary) (p : ℕ → ℕ)
-    (inside : (i : ℕ) → 0 < p i → i < length ys) (m : Made s ys e p) where
-  -- what was made of the rows so far is still made so
-  old-rows : madeOf s (snoc ys x) (m .making) ≡ e
-  old-rows = more-rows s ys x (m .making) (λ i o. inside i (let q = m .pushes i in omega arith)) ∙ m .gives
-
-  -- a row came, and another entry took it
-  made-kept : Made s (snoc ys x) e p
-  made-kept = record { making = m .making; gives = old-rows; pushes = m .pushes }
-
-  -- a row came, and was pushed
-  made-row : Made s (snoc ys x) (push s x e) (λ i. is i (length ys) + p i)
-  made-row = record {
-    making = taking (length ys) (m .making);
-    gives = (unfold madeOf in (ap (λ y. push s y (madeOf s (snoc ys x) (m .making))) (snoc-at ys x []) ∙ ap (λ c. push s x c) old-rows));
-    pushes = (λ i. unfold uses in ap (λ n. is i (length ys) + n) (m .pushes i));
-  }
+-- a call's row came, and was pushed
+made-row : {s : Settings} {ys : List Origin} {e : Summary} {p : ℕ → ℕ} (x : List Float) → Made s ys e p
+    → Made s (snoc ys (called x)) (push s x e) (λ i. is i (length ys) + p i)
+made-row {s} {ys} x m = taking (length ys) x (unfold originAt in snoc-at ys (called x) (behind blank 0)) (made-kept (called x) m)
 
 -- ---- a row more, whoever takes it
 
 -- an entry that owns nothing yet is empty
-pub blank-made : {s : Settings} {ys : List (List Float)} (a : List ℕ) (c : ℕ) → occurs c a ≡ 0 → Made s ys blank (owns a c)
-blank-made a c e = made-as blank blank (λ _. 0) (owns a c) made-none refl (λ i. owns-none a c i e)
+pub blank-made : {s : Settings} {ys : List Origin} (a : List ℕ) (c : ℕ) → occurs c a ≡ 0 → Made s ys blank (owns a c)
+blank-made a c e = alike empty (λ i. owns-none a c i e)
 
--- an account as long as the rows names places of rows only
-inside : (ys : List (List Float)) (a : List ℕ) → length a ≡ length ys → (c i : ℕ) → 0 < owns a c i → i < length ys
-inside ys a len c i o = let q = owns-in a c i o in omega arith
-
-module _ {s : Settings} (ys : List (List Float)) (x : List Float) (a : List ℕ) (len : length a ≡ length ys) where
+module _ {s : Settings} (ys : List Origin) (x : List Float) (a : List ℕ) (len : length a ≡ length ys) where
   -- the taker d: the row at the new place is pushed into it
-  pub taker-made : (c d : ℕ) (e : Summary) → c ≡ d → Made s ys e (owns a c) → Made s (snoc ys x) (push s x e) (owns (snoc a d) c)
-  taker-made c d e q m =
-      made-as (push s x e) (push s x e) (λ i. is i (length ys) + owns a c i) (owns (snoc a d) c) (made-row ys x e (owns a c) (inside ys a len c) m) refl
-      (λ i. owns-taken a c d i q ∙ ap (λ n. is i n + owns a c i) len)
+  pub taker-made : (c d : ℕ) (e : Summary) → c ≡ d → Made s ys e (owns a c) → Made s (snoc ys (called x)) (push s x e) (owns (snoc a d) c)
+  taker-made c d e q m = alike (made-row x m) (λ i. owns-taken a c d i q ∙ ap (λ n. is i n + owns a c i) len)
 
   -- any other entry is as it was
-  pub other-made : (c d : ℕ) (e : Summary) → c ≢ d → Made s ys e (owns a c) → Made s (snoc ys x) e (owns (snoc a d) c)
-  other-made c d e q m =
-      made-as e e (owns a c) (owns (snoc a d) c) (made-kept ys x e (owns a c) (inside ys a len c) m) refl (λ i. owns-other a c d i q)
+  pub other-made : (c d : ℕ) (e : Summary) → c ≢ d → Made s ys e (owns a c) → Made s (snoc ys (called x)) e (owns (snoc a d) c)
+  other-made c d e q m = alike (made-kept (called x) m) (λ i. owns-other a c d i q)

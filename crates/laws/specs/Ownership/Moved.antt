@@ -7,7 +7,6 @@ use mathlib.Core.List.{List, [], _∷_, map, map-map}
 use native.Mathlib.Omega.{arith}
 use lib.Dec.{eqb}
 use lib.ListN.{getD}
-use lib.Ieee.{Float}
 use Rattle.feature.specs.declared.Summary.{Summary}
 use Rattle.head.specs.declared.Settings.{Settings}
 use Rattle.rules.specs.Lists.{occurs}
@@ -15,8 +14,8 @@ use Rattle.rules.specs.Tree.{merge}
 use Rattle.rules.specs.declared.Pair.{Pair}
 use Rattle.counting.specs.Count.{is, is-same, is-other, is-eq, same?, eq-test}
 use Rattle.counting.specs.Sums.{occurs-cons, occurs-here, occurs-later}
-use Rattle.laws.specs.Demand.{mergedTo, owns, Made}
-use Rattle.laws.specs.Ownership.Made.{AllMade, map-same, at-plus, made-as, made-both}
+use Rattle.laws.specs.Demand.{Origin, mergedTo, owns, Made, joining}
+use Rattle.laws.specs.Ownership.Made.{AllMade, map-same, at-plus, made-as}
 
 -- whoever owns a row after a move had it from an owner before it
 pub from-map : (f : ℕ → ℕ) (k : ℕ) (a : List ℕ) → 0 < occurs k (map f a) → (c : ℕ) × (0 < occurs c a) × (f c ≡ k)
@@ -37,7 +36,7 @@ unfolding owns
 owns-moved f k a g i h = ap (λ l. getD l i 0) (map-map (is k) f a ∙ map-same (λ c. is k (f c)) g a h)
 
 -- renumbered: each entry itself goes by f, and no two owners to one number
-pub moved-made : {s : Settings} {ys : List (List Float)} (f : ℕ → ℕ) (E F : ℕ → Summary) (a : List ℕ) → ((c : ℕ) → 0 < occurs c a → F (f c) ≡ E c)
+pub moved-made : {s : Settings} {ys : List Origin} (f : ℕ → ℕ) (E F : ℕ → Summary) (a : List ℕ) → ((c : ℕ) → 0 < occurs c a → F (f c) ≡ E c)
     → ((c d : ℕ) → 0 < occurs c a → 0 < occurs d a → f c ≡ f d → c ≡ d) → AllMade s ys E a → AllMade s ys F (map f a)
 moved-made {s} {ys} f E F a same apart m k o = go (from-map f k a o)
   where
@@ -103,14 +102,14 @@ module _ (p : Pair) (d : p .one ≢ p .two) where
       go (inr e) = ap (λ z. is c z) (off-two i e)
 
   -- two owners merged: the first is made of the rows of both
-  pub merge-made : {s : Settings} {ys : List (List Float)} (E F : ℕ → Summary) (a : List ℕ) → 0 < occurs (p .one) a → 0 < occurs (p .two) a
+  pub merge-made : {s : Settings} {ys : List Origin} (E F : ℕ → Summary) (a : List ℕ) → 0 < occurs (p .one) a → 0 < occurs (p .two) a
       → F (p .one) ≡ merge s (E (p .one)) (E (p .two)) → ((c : ℕ) → c ≢ p .one → F c ≡ E c) → AllMade s ys E a → AllMade s ys F (map (mergedTo p) a)
   merge-made {s} {ys} E F a o1 o2 e1 e2 m c o = go (same? c (p .one)) (same? c (p .two))
     where
       go : (c ≡ p .one) ⊎ (c ≢ p .one) → (c ≡ p .two) ⊎ (c ≢ p .two) → Made s ys (F c) (owns (map (mergedTo p) a) c)
       go (inl x) y =
           made-as (merge s (E (p .one)) (E (p .two))) (F c) (λ i. owns a (p .one) i + owns a (p .two) i) (owns (map (mergedTo p) a) c)
-          (made-both (E (p .one)) (E (p .two)) (owns a (p .one)) (owns a (p .two)) (m (p .one) o1) (m (p .two) o2)) (sym e1 ∙ ap F (sym x))
+          (joining (m (p .one) o1) (m (p .two) o2)) (sym e1 ∙ ap F (sym x))
           (λ i. owns-moved (mergedTo p) c a (λ j. is (p .one) j + is (p .two) j) i (λ j _. to-one c x j)
           ∙ (unfold owns in at-plus (is (p .one)) (is (p .two)) a i))
       go (inr x) (inl y) =

@@ -28,7 +28,7 @@ use Rattle.laws.specs.Invariant.Sound.{entryWeight}
 use Rattle.counting.specs.Only.{only, only-at, only-off}
 use Rattle.counting.specs.Totals.{over-sum, sum-only}
 use Rattle.counting.specs.Flags.{alive, alive-up, alive-down, flag?, renumber-sum, renumber-apart, keep-at, keep-length, up-in}
-use Rattle.laws.specs.Demand.{takerOf, mergedTo, owns, Made}
+use Rattle.laws.specs.Demand.{takerOf, mergedTo, owns, Made, Origin}
 use Rattle.laws.specs.Ownership.Made.{AllMade}
 use Rattle.laws.specs.Ownership.Moved.{moved-made, to-one, to-two, to-other, merge-made}
 
@@ -48,7 +48,7 @@ heldBy t = record { rows = entryWeight t; entry = entryAt t }
 abbrev pub Carries : Settings → (ℕ → ℕ) → Held → Held → Type 0
 Carries s f X Y =
     (a : List ℕ) → ((c : ℕ) → X .rows c ≡ occurs c a)
-    → ((c : ℕ) → Y .rows c ≡ occurs c (map f a)) × ((ys : List (List Float)) → AllMade s ys (X .entry) a → AllMade s ys (Y .entry) (map f a))
+    → ((c : ℕ) → Y .rows c ≡ occurs c (map f a)) × ((ys : List Origin) → AllMade s ys (X .entry) a → AllMade s ys (Y .entry) (map f a))
 
 pub carries-then : (s : Settings) (f g : ℕ → ℕ) (X Y Z : Held) → Carries s f X Y → Carries s g Y Z → Carries s (λ c. g (f c)) X Z
 carries-then s f g X Y Z p q a h =

@@ -3,7 +3,7 @@ use Prim.Native.Nat.{ℕ, suc, _+_, _≤_, _<_}
 use mathlib.Core.Path.{_≡_, refl, sym, ap, _∙_, subst}
 use mathlib.Core.Logic.{inl, inr}
 use mathlib.Core.Bool.{Bool, true, false, cond}
-use mathlib.Core.List.{List, [], map}
+use mathlib.Core.List.{List, map}
 use native.Mathlib.Omega.{arith}
 use lib.Dec.{T, ltb, eqb, ltb→lt}
 use lib.ListN.{length, getD}
@@ -14,8 +14,8 @@ use Rattle.feature.specs.Summaries.{blank}
 use Rattle.head.specs.declared.Settings.{Settings}
 use Rattle.rules.specs.declared.Nearest.{Nearest}
 use Rattle.rules.specs.declared.Nearest.the-variants.{Entry, Nothing}
-use Rattle.rules.specs.Lists.{changeAt, snoc, occurs}
-use Rattle.rules.specs.Tree.{push, distTo, Tree, nodeAt, entryAt, fresh, withNodes, withEntries, rowsIn}
+use Rattle.rules.specs.Lists.{changeAt, snoc}
+use Rattle.rules.specs.Tree.{push, distTo, Tree, nodeAt, entryAt, withNodes, withEntries, rowsIn}
 use Rattle.rules.specs.Descent.{searched, leafFor, alongPath}
 use Rattle.rules.specs.Insert.{begun, absorbed, placed, absorbedOrBegun, grownAt, grown, absorbs, rowItem}
 use Rattle.rules.specs.Split.{settled}
@@ -30,7 +30,7 @@ use Rattle.laws.specs.Inserting.First.{Holding, leaf-of}
 use Rattle.laws.specs.Room.Kept.{Kept}
 use Rattle.laws.specs.Demand.{takerOf, taker, rebuiltTo, ownersIn}
 use Rattle.laws.specs.Locality.Entry.{winner-in, winner-found}
-use Rattle.laws.specs.Ownership.Owned.{Owned, weight-past, joined-one}
+use Rattle.laws.specs.Ownership.Owned.{Owned, joined-one}
 use Rattle.laws.specs.Ownership.Merged.{rebuild-moves}
 use Rattle.laws.specs.Inserting.Items.{grown-holds}
 use Rattle.rules.specs.Rows.{inserted}
@@ -136,7 +136,3 @@ inserted-owned s x t total a c one k h w =
         → Owned (cond b (rebuilt s (grown s (rowItem s x) t)) (grown s (rowItem s x) t)) (cond b (map (λ c. rebuiltTo s (grown s (rowItem s x) t) c) (snoc a (taker (rowItem s x) t))) (snoc a (taker (rowItem s x) t)))
     go false f = now
     go true f = rebuild-moves (big .1) (big .2) one (f tt) (snoc a (taker (rowItem s x) t)) now .0
-
-pub fresh-owned : (h : Float) → Owned (fresh h) []
-unfolding fresh
-fresh-owned h c = weight-past (fresh h) c (omega arith) ∙ (unfold occurs in refl)

@@ -21,7 +21,7 @@ use Rattle.laws.specs.Invariant.Links.{Links, nil}
 use Rattle.laws.specs.Invariant.Sound.{entryWeight, Caps}
 use Rattle.laws.specs.Inserting.Grown.{Whole}
 use Rattle.laws.specs.Rebuilding.Restored.{Stale, stale-of, refold-restores}
-use Rattle.laws.specs.Demand.{reinsertedTo, refitOwners, ownersRefit, owns, Made}
+use Rattle.laws.specs.Demand.{reinsertedTo, refitOwners, ownersRefit, owns, Made, called}
 use Rattle.laws.specs.Ownership.Made.{AllMade}
 use Rattle.laws.specs.Ownership.Owned.{Owned}
 use Rattle.laws.specs.Refitting.Round.{u, bs, again-whole, w, few-u, moved-again, len-w, pos-u, all-stale, poured-owned, drop-stale, moved-u}
@@ -35,7 +35,7 @@ use Rattle.laws.specs.Refitting.Names.{Names}
 -- the rounds of a refit with rows xs left tree v and account a: right links and entries, each entry made of its rows, no more entries
 abbrev pub Ended : Settings → List (List Float) → ℕ → Tree → Tree → List ℕ → Type 0
 Ended s xs top t v a =
-    ((R : ℕ → ℕ) × Stale s v R (length xs)) × Owned v a × (length (v .entries) ≤ top) × (v .running ≡ t .running) × AllMade s xs (entryAt v) a
+    ((R : ℕ → ℕ) × Stale s v R (length xs)) × Owned v a × (length (v .entries) ≤ top) × (v .running ≡ t .running) × AllMade s (map called xs) (entryAt v) a
 
 and-not : (b c : Bool) → (not b && c) ≡ true → b ≡ false
 and-not true c e = absurd (false≢true e)
@@ -44,7 +44,7 @@ and-not false c e = refl
 -- the rounds end in a tree of right links and entries, and in its account
 pub rounds-whole : (s : Settings) (way : Route) → Names s way → (xs : List (List Float)) (top : ℕ) → Caps s → 0 < length xs → length xs ≤ most → (k r : ℕ) (t : Tree) (R : ℕ → ℕ) (a : List ℕ)
     → Links s (nodeAt t) (length (t .nodes)) (t .root) (length (t .entries)) R nil nil nil → length (t .entries) ≤ top
-    → (k ≡ 0 → Stale s t R (length xs) × Owned t a × AllMade s xs (entryAt t) a)
+    → (k ≡ 0 → Stale s t R (length xs) × Owned t a × AllMade s (map called xs) (entryAt t) a)
     → Ended s xs top t (refitRounds s way xs k r t) (refitOwners s way xs k r t a)
 unfolding refitRounds refitOwners
 rounds-whole s way names xs top c pos small zero r t R a g few z = ((R, z refl .0), z refl .1, few, refl, z refl .2)
@@ -60,7 +60,7 @@ rounds-whole s way names xs top c pos small (suc k) r t R a g few z =
 
     again : every (λ b. b) (bs names xs small t g) ≡ false
         → ((v : Tree) (b : List ℕ) (S : ℕ → ℕ) → Links s (nodeAt v) (length (v .nodes)) (v .root) (length (v .entries)) S nil nil nil
-        → length (v .entries) ≤ top → (k ≡ 0 → Stale s v S (length xs) × Owned v b × AllMade s xs (entryAt v) b)
+        → length (v .entries) ≤ top → (k ≡ 0 → Stale s v S (length xs) × Owned v b × AllMade s (map called xs) (entryAt v) b)
         → Ended s xs top v (refitRounds s way xs k (suc r) v) (refitOwners s way xs k (suc r) v b))
         → Ended s xs top t (refitRounds s way xs k (suc r) after) (refitOwners s way xs k (suc r) after owners)
     again e ih =
@@ -72,15 +72,15 @@ rounds-whole s way names xs top c pos small (suc k) r t R a g few z =
         (λ _. (stale-of s after (x .0) (length xs) (x .1) (x .2), moved-again names xs small t g .0, made)) in
         (i .0, i .1, i .2, i .3 ∙ same, i .4)
       where
-        made : AllMade s xs (entryAt after) owners
-        made = moved-again names xs small t g .1 xs (moved-u names xs small t g .1 xs (pour-made names xs small t g))
+        made : AllMade s (map called xs) (entryAt after) owners
+        made = moved-again names xs small t g .1 (map called xs) (moved-u names xs small t g .1 (map called xs) (pour-made names xs small t g))
 
         same : after .running ≡ t .running
         same = reinserted-running s (u names xs small t g) ∙ (unfold dropped withEntries withNodes in refl)
 
     go : (p : Bool) → every (λ b. b) (bs names xs small t g) ≡ p → (q : Bool) → (not (anyHollow ((u names xs small t g) .nodes)) && leb 1 r) ≡ q
         → ((v : Tree) (b : List ℕ) (S : ℕ → ℕ) → Links s (nodeAt v) (length (v .nodes)) (v .root) (length (v .entries)) S nil nil nil
-        → length (v .entries) ≤ top → (k ≡ 0 → Stale s v S (length xs) × Owned v b × AllMade s xs (entryAt v) b)
+        → length (v .entries) ≤ top → (k ≡ 0 → Stale s v S (length xs) × Owned v b × AllMade s (map called xs) (entryAt v) b)
         → Ended s xs top v (refitRounds s way xs k (suc r) v) (refitOwners s way xs k (suc r) v b))
         → Ended s xs top t
         (elim p as (λ _. Tree) [ true ↦ w names xs small t g | false ↦ elim q as (λ _. Tree) [ true ↦ u names xs small t g | false ↦ refitRounds s way xs k (suc r) after ] ])
@@ -101,7 +101,7 @@ rounds-whole s way names xs top c pos small (suc k) r t R a g few z =
       moved-u names xs small t g .0,
       (let a = few-u names xs small t g e in omega arith),
       (unfold dropped withEntries withNodes in refl),
-      moved-u names xs small t g .1 xs (pour-made names xs small t g),
+      moved-u names xs small t g .1 (map called xs) (pour-made names xs small t g),
     )
     go false e false f ih = again e ih
 
@@ -112,7 +112,7 @@ pub refit-whole : (s : Settings) (way : Route) → Names s way → (x : List Flo
     → 0 < length (t .entries) → suc (length xs) ≤ most
     → Whole s (refitted s way (x ∷ xs) t) (suc (length xs)) × Owned (refitted s way (x ∷ xs) t) (ownersRefit s way (x ∷ xs) t a)
     × (length ((refitted s way (x ∷ xs) t) .entries) ≤ length (t .entries)) × ((refitted s way (x ∷ xs) t) .running ≡ t .running)
-    × AllMade s (x ∷ xs) (entryAt (refitted s way (x ∷ xs) t)) (ownersRefit s way (x ∷ xs) t a)
+    × AllMade s (map called (x ∷ xs)) (entryAt (refitted s way (x ∷ xs) t)) (ownersRefit s way (x ∷ xs) t a)
 unfolding refitted ownersRefit
 refit-whole s way names x xs t old a c w pos small = go (eqb (length (t .entries)) 0) refl
   where
@@ -145,7 +145,7 @@ refit-whole s way names x xs t old a c w pos small = go (eqb (length (t .entries
     go : (p : Bool) → eqb (length (t .entries)) 0 ≡ p
         → Whole s (cond p t (refolded s v)) (suc (length xs)) × Owned (cond p t (refolded s v)) (cond p a b)
         × (length ((cond p t (refolded s v)) .entries) ≤ length (t .entries)) × ((cond p t (refolded s v)) .running ≡ t .running)
-        × AllMade s (x ∷ xs) (entryAt (cond p t (refolded s v))) (cond p a b)
+        × AllMade s (map called (x ∷ xs)) (entryAt (cond p t (refolded s v))) (cond p a b)
     go true e = let z = eq-test (length (t .entries)) 0 true e .0 refl in absurd (omega arith)
     go false e = (
       refold-restores (end .0 .1),
@@ -153,7 +153,7 @@ refit-whole s way names x xs t old a c w pos small = go (eqb (length (t .entries
       (let q : length ((refolded s v) .entries) ≡ length (v .entries) = ap (λ l. length l) same-e in
           let r = end .2 in omega arith),
       same-m ∙ end .3,
-      (λ c o. subst (λ e. Made s (x ∷ xs) e (owns b c)) (sym (same-at c)) (end .4 c o)),
+      (λ c o. subst (λ e. Made s (map called (x ∷ xs)) e (owns b c)) (sym (same-at c)) (end .4 c o)),
     )
 
 -- ---- the fuel never decides: whatever is given, from the count of entries up, the rounds end alike

@@ -32,7 +32,7 @@ use Rattle.counting.specs.Flags.{alive, alive-up, alive-down, flag?, up-in}
 use Rattle.laws.specs.Rebuilding.Drop.{dropped-nodes, dropped-entries, leaf-is, drop-frame, drop-rows, drop-counted, size-leaf, drop-links}
 use Rattle.laws.specs.Rebuilding.Reinsert.{reinserted-whole}
 use Rattle.laws.specs.Rebuilding.Restored.{Stale}
-use Rattle.laws.specs.Demand.{reinsertedTo}
+use Rattle.laws.specs.Demand.{reinsertedTo, Origin}
 use Rattle.laws.specs.Ownership.Made.{AllMade}
 use Rattle.laws.specs.Ownership.Owned.{Owned, weight-past, drop-carries}
 use Rattle.laws.specs.Ownership.Merged.{reinsert-carries}
@@ -243,7 +243,7 @@ module _ {s : Settings} {way : Route} (names : Names s way) (xs : List (List Flo
   few-u e = let a = len-u in let b = count-lt bs e in let c = len-bs in let d = len-w in omega arith
 
   -- the account and the makings, when the unused are dropped
-  pub moved-u : Owned u (map (renumber bs) b) × ((ys : List (List Float)) → AllMade s ys (entryAt w) b → AllMade s ys (entryAt u) (map (renumber bs) b))
+  pub moved-u : Owned u (map (renumber bs) b) × ((ys : List Origin) → AllMade s ys (entryAt w) b → AllMade s ys (entryAt u) (map (renumber bs) b))
   moved-u = drop-carries s w bs len-bs (map (way t) xs) (λ c. alive-same c ∙ poured-owned c)
 
   pub frame-u : Frame (nodeAt u) (length (u .nodes)) (u .root) (length (u .entries)) R
@@ -288,6 +288,6 @@ module _ {s : Settings} {way : Route} (names : Names s way) (xs : List (List Flo
   again-whole c h = reinserted-whole u (length xs) c frame-u rows-u counted-u small (pos-u h)
 
   -- and when what is left is reinserted
-  pub moved-again : Owned (reinserted s u) (map (λ c. reinsertedTo s u c) (map (renumber bs) b)) × ((ys : List (List Float))
+  pub moved-again : Owned (reinserted s u) (map (λ c. reinsertedTo s u c) (map (renumber bs) b)) × ((ys : List Origin)
       → AllMade s ys (entryAt u) (map (renumber bs) b) → AllMade s ys (entryAt (reinserted s u)) (map (λ c. reinsertedTo s u c) (map (renumber bs) b)))
   moved-again = reinsert-carries s u frame-u (map (renumber bs) b) (moved-u .0)

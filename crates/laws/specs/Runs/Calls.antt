@@ -1,5 +1,5 @@
 -- Each accepted call on a tree at rest leaves a tree at rest, and moves the account with it; each entry stays made of its rows.
-use Prim.Native.Nat.{ℕ, suc, _+_, _≤_, _<_}
+use Prim.Native.Nat.{ℕ, zero, suc, _+_, _≤_, _<_}
 use mathlib.Core.Path.{_≡_, refl, ap, subst, sym, _∙_}
 use mathlib.Core.Logic.{inl, inr, _≢_}
 use mathlib.Core.Bool.{Bool, true, false, cond, not, true≢false}
@@ -20,7 +20,7 @@ use Rattle.laws.specs.Inserting.First.{Holding, fresh-holds}
 use Rattle.laws.specs.Room.Kept.{inserted-kept}
 use Rattle.laws.specs.Check.Both.{AtRest}
 use Rattle.counting.specs.Lists.{snoc-length}
-use Rattle.laws.specs.Demand.{taker, rebuiltTo, ownersIn, ownersAll, ownersRefit, effective}
+use Rattle.laws.specs.Demand.{taker, rebuiltTo, ownersIn, ownersAll, ownersRefit, effective, Origin, called}
 use Rattle.laws.specs.Ownership.Made.{AllMade}
 use Rattle.laws.specs.Ownership.Owned.{Owned}
 use Rattle.laws.specs.Ownership.Rows.{inserted-owned}
@@ -73,22 +73,23 @@ module _ {s : Settings} (z : Sized s) where
       (batch-owning xs (inserted s x t) (suc rows) (ownersIn s x t a) (row-owning x t rows a o (omega arith)) (omega arith))
 
   -- entries that are made of the rows ys so far are made of these and the batch's rows
-  pub batch-made : (xs : List (List Float)) (t : Tree) (ys : List (List Float)) (a : List ℕ) → Owning s t (length ys) a → length a ≡ length ys
-      → length ys + length xs ≤ most → AllMade s ys (entryAt t) a → AllMade s (ys ++ xs) (entryAt (insertedAll s xs t)) (ownersAll s xs t a)
+  pub batch-made : (xs : List (List Float)) (t : Tree) (ys : List Origin) (a : List ℕ) → Owning s t (length ys) a → length a ≡ length ys
+      → length ys + length xs ≤ most → AllMade s ys (entryAt t) a → AllMade s (ys ++ map called xs) (entryAt (insertedAll s xs t)) (ownersAll s xs t a)
   unfolding insertedAll ownersAll snoc
   batch-made [] t ys a o len h m = subst (λ l. AllMade s l (entryAt t) a) (sym (append-nil ys)) m
   batch-made (x ∷ xs) t ys a o len h m =
       let r = o .rests in
-      let n : length (snoc ys x) ≡ suc (length ys) = snoc-length ys x in
+      let n : length (snoc ys (called x)) ≡ suc (length ys) = snoc-length ys (called x) in
       let k = owners-length s x t a in
-      subst (λ l. AllMade s l (entryAt (insertedAll s xs (inserted s x t))) (ownersAll s xs (inserted s x t) (ownersIn s x t a))) (append-assoc ys (x ∷ []) xs)
-      (batch-made xs (inserted s x t) (snoc ys x) (ownersIn s x t a)
+      subst (λ l. AllMade s l (entryAt (insertedAll s xs (inserted s x t))) (ownersAll s xs (inserted s x t) (ownersIn s x t a)))
+      (append-assoc ys (called x ∷ []) (map called xs))
+      (batch-made xs (inserted s x t) (snoc ys (called x)) (ownersIn s x t a)
       (subst (λ n. Owning s (inserted s x t) n (ownersIn s x t a)) (sym n) (row-owning x t (length ys) a o (omega arith))) (omega arith) (omega arith)
       (inserted-made s x t (length ys) ys a (caps-of z) (z .most-some) (r .holds, r .few) (omega arith) len (o .owned) m))
 
   -- an effective refit: the account, and what the entries are made of
   effective-both : (way : Route) → Names s way → (xs : List (List Float)) (t : Tree) (rows : ℕ) (a : List ℕ) → AtRest s t rows → effective xs t ≡ true → length xs ≤ most
-      → Owning s (refitted s way xs t) (length xs) (ownersRefit s way xs t a) × AllMade s xs (entryAt (refitted s way xs t)) (ownersRefit s way xs t a)
+      → Owning s (refitted s way xs t) (length xs) (ownersRefit s way xs t a) × AllMade s (map called xs) (entryAt (refitted s way xs t)) (ownersRefit s way xs t a)
   unfolding effective
   effective-both way names [] t rows a r e h = let z : _≡_ {A = ℕ} 0 1 = cc in absurd (omega arith)
   effective-both way names (x ∷ xs) t rows a r e h = go (r .holds)
@@ -97,7 +98,7 @@ module _ {s : Settings} (z : Sized s) where
       some-entry q = true≢false (sym e ∙ ap (λ n. not (eqb n 0)) q)
 
       go : Holding s t rows → Owning s (refitted s way (x ∷ xs) t) (suc (length xs)) (ownersRefit s way (x ∷ xs) t a)
-          × AllMade s (x ∷ xs) (entryAt (refitted s way (x ∷ xs) t)) (ownersRefit s way (x ∷ xs) t a)
+          × AllMade s (map called (x ∷ xs)) (entryAt (refitted s way (x ∷ xs) t)) (ownersRefit s way (x ∷ xs) t a)
       go (inl b) = absurd (some-entry (ap (λ u. length (u .entries)) (b .0 .is)))
       go (inr w) =
           let q = refit-whole s way names x xs t rows a (caps-of z) w (let n = some-entry in omega arith) h in
@@ -113,8 +114,17 @@ module _ {s : Settings} (z : Sized s) where
 
   -- nor of what the entries were made of: they are made of its own rows
   pub effective-made : (way : Route) → Names s way → (xs : List (List Float)) (t : Tree) (rows : ℕ) (a : List ℕ) → AtRest s t rows → effective xs t ≡ true → length xs ≤ most
-      → AllMade s xs (entryAt (refitted s way xs t)) (ownersRefit s way xs t a)
+      → AllMade s (map called xs) (entryAt (refitted s way xs t)) (ownersRefit s way xs t a)
   effective-made way names xs t rows a r e h = effective-both way names xs t rows a r e h .1
+
+pub effective-some : (xs : List (List Float)) (t : Tree) → effective xs t ≡ true → 0 < length (t .entries)
+unfolding effective
+effective-some [] t e = let z : _≡_ {A = ℕ} 0 1 = cc in absurd (omega arith)
+effective-some (x ∷ xs) t e = go (length (t .entries)) e
+  where
+    go : (n : ℕ) → not (eqb n 0) ≡ true → 0 < n
+    go zero e = let z : _≡_ {A = ℕ} 0 1 = cc in absurd (omega arith)
+    go (suc n) e = omega arith
 
 -- any other refit alters nothing
 pub idle-refit : (s : Settings) (way : Route) (xs : List (List Float)) (t : Tree) (a : List ℕ) → effective xs t ≡ false → (refitted s way xs t ≡ t) × (ownersRefit s way xs t a ≡ a)

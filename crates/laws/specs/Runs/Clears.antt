@@ -1,5 +1,5 @@
 -- What an accepted changing call leaves beside its tree: zeros past the counts and in scratch, and each buffer's surplus as lent.
-use Prim.Native.Nat.{ℕ, zero, suc, _+_, _≤_, _<_}
+use Prim.Native.Nat.{ℕ, suc, _+_, _≤_, _<_}
 use mathlib.Core.Path.{_≡_, refl, sym, subst}
 use mathlib.Core.Bool.{Bool, true, false}
 use mathlib.Core.List.{List, [], _∷_}
@@ -8,50 +8,31 @@ use lib.ListN.{length}
 use lib.Ieee.{Float}
 use Rattle.binary64.specs.Whole.{most}
 use Rattle.head.specs.declared.Settings.{Settings}
-use Rattle.head.specs.declared.Counters.{Counters}
 use Rattle.head.specs.declared.Head.{Head}
 use Rattle.head.specs.declared.refusal.Answer.the-variants.{Accepted}
 use Rattle.head.specs.Heads.{settingsOf}
 use Rattle.head.specs.Limits.{Sized, allowed-sized}
 use Rattle.rules.specs.declared.Verdict.the-variants.{Passes}
-use Rattle.rules.specs.Lists.{snoc, table}
 use Rattle.rules.specs.Tree.{Tree}
 use Rattle.rules.specs.Refit.{refitted}
 use Rattle.rules.specs.Check.{checked, totalOf}
-use Rattle.rules.specs.Slices.{nodeIn, slotAt, treeOf}
 use Rattle.rules.specs.Calls.{Lent, lentTree, changed, rowInserted, batchInserted, batchRefitted}
 use Rattle.rules.specs.CallLaws.{accepted-done, Ready, row-taken, batch-taken, refit-taken}
 use Rattle.rules.specs.Cleared.{Clears, changed-clears}
-use Rattle.rules.specs.Held.{in-shaped}
-use Rattle.counting.specs.All.{All, all-append}
-use Rattle.laws.specs.Shapes.{ShapedTree, batch-shaped, refit-shaped}
-use Rattle.laws.specs.Check.Taken.{Binary64}
+use Rattle.laws.specs.Shapes.{ShapedTree, batch-shaped, refit-shaped, lent-shaped}
+use Rattle.laws.specs.Demand.{Binary64, Origin}
 use Rattle.laws.specs.Check.Both.{AtRest, passing-rests}
-use Rattle.laws.specs.Demand.{effective, rowsIn, Calls}
+use Rattle.laws.specs.Demand.{standing, effective, batchRows, Calls}
 use Rattle.laws.specs.Runs.Calls.{row-rests, batch-owning, effective-owning, idle-refit}
-use Rattle.laws.specs.Runs.Runs.{rest-total, effective-some}
-use Rattle.laws.specs.Runs.Lent.{standing, standing-owned}
+use Rattle.laws.specs.Runs.Runs.{rest-total}
+use Rattle.laws.specs.Runs.Calls.{effective-some}
+use Rattle.laws.specs.Runs.Lent.{standing-owned}
 use Rattle.laws.specs.Runs.Fitting.{resting-fits}
 use Rattle.laws.specs.Runs.OneCall.{row-accepted, batch-accepted, refit-accepted}
 use Rattle.laws.specs.Runs.Public.{calls-rest}
 use Rattle.rules.specs.Route.{greedy}
 use Rattle.laws.specs.Refitting.Names.{greedy-names}
 use Rattle.rules.specs.Rows.{inserted, insertedAll}
-
--- ---- a lent tree has its shape, whatever the slices hold
-
-all-table : {A : Type 0} (Q : A → Type 0) (f : ℕ → A) → ((i : ℕ) → Q (f i)) → (n : ℕ) → All Q (table f n)
-unfolding table snoc
-all-table Q f q zero = tt
-all-table Q f q (suc n) = all-append Q (table f n) (f n ∷ []) (all-table Q f q n) (q n, tt)
-
-lent-shaped : (s : Settings) → Sized s → (c : Counters) (fs : List Float) (ls : List ℕ) → ShapedTree s (treeOf s c fs ls)
-unfolding treeOf nodeIn
-lent-shaped s z c fs ls =
-    record {
-      nodes = all-table _ _ (λ i. in-shaped s z (slotAt s fs i)) (c .nodes);
-      entries = all-table _ _ (λ i. in-shaped s z _) (c .entries);
-    }
 
 module _ (h : Head) (l : Lent) where
   abbrev s : Settings
@@ -101,24 +82,24 @@ module _ (h : Head) (l : Lent) where
         let r = rest (a .passes) in
         let (is, small) = batch-accepted h l xs e in
         let n = rest-total r in
-        let o = batch-owning z (rowsIn h xs) t rows (standing 0 (t .entries)) (record { rests = r; owned = standing-owned t }) (omega arith) in
+        let o = batch-owning z (batchRows h xs) t rows (standing 0 (t .entries)) (record { rests = r; owned = standing-owned t }) (omega arith) in
         subst (Clears h l) (sym is)
-        (cleared (insertedAll s (rowsIn h xs) t) (rows + length (rowsIn h xs)) z (o .rests) (batch-shaped s (rowsIn h xs) t (shaped z)))
+        (cleared (insertedAll s (batchRows h xs) t) (rows + length (batchRows h xs)) z (o .rests) (batch-shaped s (batchRows h xs) t (shaped z)))
 
     refit-clears : (xs : List Float) → batchRefitted h l xs .answer ≡ Accepted → Clears h l (batchRefitted h l xs)
     refit-clears xs e =
         let a = refit-ready xs e in
         let z = allowed-sized h (a .allows) in
         let (is, small) = refit-accepted h l xs e in
-        subst (Clears h l) (sym is) (go (effective (rowsIn h xs) t) z (rest (a .passes)) small refl)
+        subst (Clears h l) (sym is) (go (effective (batchRows h xs) t) z (rest (a .passes)) small refl)
       where
-        go : (b : Bool) → Sized s → AtRest s t rows → (0 < length (t .entries) → length (rowsIn h xs) ≤ most) → effective (rowsIn h xs) t ≡ b
-            → Clears h l (changed h l (refitted s (greedy s) (rowsIn h xs) t))
+        go : (b : Bool) → Sized s → AtRest s t rows → (0 < length (t .entries) → length (batchRows h xs) ≤ most) → effective (batchRows h xs) t ≡ b
+            → Clears h l (changed h l (refitted s (greedy s) (batchRows h xs) t))
         go true z r small q =
-            let o = effective-owning z (greedy s) (greedy-names s) (rowsIn h xs) t rows (standing 0 (t .entries)) r q (small (effective-some (rowsIn h xs) t q)) in
-            cleared (refitted s (greedy s) (rowsIn h xs) t) (length (rowsIn h xs)) z (o .rests) (refit-shaped s (greedy s) (rowsIn h xs) t (shaped z))
+            let o = effective-owning z (greedy s) (greedy-names s) (batchRows h xs) t rows (standing 0 (t .entries)) r q (small (effective-some (batchRows h xs) t q)) in
+            cleared (refitted s (greedy s) (batchRows h xs) t) (length (batchRows h xs)) z (o .rests) (refit-shaped s (greedy s) (batchRows h xs) t (shaped z))
         go false z r small q =
-            let i = idle-refit s (greedy s) (rowsIn h xs) t [] q .0 in
+            let i = idle-refit s (greedy s) (batchRows h xs) t [] q .0 in
             subst (λ u. Clears h l (changed h l u)) (sym i) (cleared t rows z r (shaped z))
 
   -- ---- any tree that is lent
@@ -135,7 +116,7 @@ module _ (h : Head) (l : Lent) where
 
   -- ---- after any calls from creation on
 
-  module _ {ys : List (List Float)} {a : List ℕ} (c : Calls h (l .floats) (l .links) ys a) where
+  module _ {h₀ : Head} {fs₀ : List Float} {ls₀ : List ℕ} {ys : List Origin} {a : List ℕ} (c : Calls h₀ fs₀ ls₀ h (l .floats) (l .links) ys a) where
     pub calls-row-clears : (x : List Float) → rowInserted h l x .answer ≡ Accepted → Clears h l (rowInserted h l x)
     calls-row-clears = row-clears (length ys) (λ _. calls-rest c)
 

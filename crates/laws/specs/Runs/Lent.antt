@@ -3,42 +3,37 @@ use Prim.Native.Nat.{ℕ, zero, suc, _+_, _≤_, _<_}
 use mathlib.Core.Path.{_≡_, refl, sym, ap, _∙_, subst}
 use mathlib.Core.Logic.{_⊎_, inl, inr, _≢_}
 use mathlib.Core.Bool.{Bool, true, false}
-use mathlib.Core.List.{List, [], _∷_, _++_}
+use mathlib.Core.List.{List, [], _∷_, _++_, map, append-assoc}
 use native.Mathlib.Omega.{arith}
-use lib.ListN.{length, getD, replicate}
-use lib.Ieee.{Float, neg}
-use Rattle.binary64.specs.Whole.{whole, most}
+use lib.ListN.{length, getD, replicate, length-append, length-map, length-replicate, List·getD-append, List·getD-map}
+use lib.Ieee.{Float}
+use Rattle.binary64.specs.Whole.{most}
 use Rattle.feature.specs.declared.Summary.{Summary}
 use Rattle.feature.specs.Summaries.{blank}
 use Rattle.head.specs.declared.Settings.{Settings}
 use Rattle.head.specs.Limits.{Sized}
 use Rattle.rules.specs.declared.Verdict.the-variants.{Passes}
-use Rattle.rules.specs.Lists.{occurs}
-use Rattle.rules.specs.Tree.{Tree, nodeAt, entryAt, rowsIn}
+use Rattle.rules.specs.Lists.{occurs, upFrom}
+use Rattle.rules.specs.Tree.{Tree, entryAt, rowsIn}
 use Rattle.rules.specs.Refit.{refitted}
 use Rattle.rules.specs.Check.{checked, totalOf}
-use Rattle.counting.specs.Count.{is-same, is-other}
+use Rattle.counting.specs.Count.{is-same, is-other, is, same?}
 use Rattle.counting.specs.Sums.{occurs-cons, occurs-append}
 use Rattle.laws.specs.Invariant.Weights.{exact-count, blank-exact}
 use Rattle.laws.specs.Invariant.Sound.{entryWeight}
-use Rattle.laws.specs.Inserting.First.{emptyTree, Zero, Holding}
-use Rattle.laws.specs.Check.Taken.{Binary64}
+use Rattle.laws.specs.Demand.{Binary64}
 use Rattle.laws.specs.Check.Both.{passing-rests, resting-passes}
-use Rattle.laws.specs.Demand.{rowsAmong, Account, effective}
+use Rattle.laws.specs.Demand.{Origin, behind, originsOf, standing, originAt, owns, Made, lent, alike, effective}
 use Rattle.laws.specs.Ownership.Owned.{Owned}
-use Rattle.laws.specs.Ownership.Account.{owned-account}
 use Rattle.laws.specs.Runs.Calls.{Owning, row-owning, batch-owning, effective-owning, idle-refit}
-use Rattle.laws.specs.Runs.Runs.{owned-length, effective-some}
-use Rattle.head.specs.declared.Running.{Running}
+use Rattle.laws.specs.Runs.Calls.{effective-some}
 use Rattle.rules.specs.Route.{Route}
 use Rattle.laws.specs.Refitting.Names.{Names}
 use Rattle.rules.specs.Rows.{inserted, insertedAll}
+use Rattle.laws.specs.Ownership.Made.{AllMade, owns-none}
+use lib.Seq.{getD-append-add}
 
--- ---- an account of any tree: each entry's number as often as it weighs, from number i on
-
-unfoldable pub standing : ℕ → List Summary → List ℕ
-standing i [] = []
-standing i (e ∷ es) = replicate (rowsIn e) i ++ standing (suc i) es
+-- ---- the account of any tree: each entry's number as often as it weighs
 
 occurs-replicate : (c n i : ℕ) → c ≡ i → occurs c (replicate n i) ≡ n
 occurs-replicate c zero i e = unfold occurs in refl
@@ -85,36 +80,151 @@ standing-owned t c = sym (stands 0 (t .entries) c) ∙ ap (λ z. occurs z (stand
 pub lent-owning : (s : Settings) (t : Tree) → Binary64 t → checked s t ≡ Passes → Owning s t (totalOf (t .entries)) (standing 0 (t .entries))
 lent-owning s t n ok = record { rests = passing-rests s t n ok; owned = standing-owned t }
 
--- ---- what the account says, of any tree at rest; an empty one may be lent with the root's weight −0.0
+-- ---- and what its entries are made of: each of its own rows, as it came
 
-empty-account : (z : Summary) (r : Running) → z .weight ≡ whole 0 → Account (emptyTree z r) []
-unfolding nodeAt rowsAmong
-empty-account z r e = record {
-  owners = (λ i q. absurd (omega arith));
-  entries = (λ c q. absurd (omega arith));
-  nodes = (λ k q. subst (λ j. nodeAt (emptyTree z r) j .summary .weight ≡ whole 0) (let z : 0 ≡ k = omega arith in z) e);
-}
+-- a lent tree has as many rows as it weighs
+up-length : (n i : ℕ) → length (upFrom n i) ≡ n
+unfolding upFrom
+up-length zero i = refl
+up-length (suc n) i = ap suc (up-length n (suc i))
 
-pub owning-account : {s : Settings} {t : Tree} {rows : ℕ} {a : List ℕ} → Owning s t rows a
-    → Account t a ⊎ ((a ≡ []) × ((z : Summary) × (z .weight ≡ neg (whole 0)) × (t ≡ emptyTree z (t .running))))
-owning-account {s} {t} {rows} {a} o = go (o .rests .holds)
+pub origins-length : (es : List Summary) → length (originsOf es) ≡ totalOf es
+unfolding originsOf totalOf
+origins-length [] = refl
+origins-length (e ∷ es) =
+    let a = length-append (map (behind e) (upFrom (rowsIn e) 0)) (originsOf es) in
+    let b = length-map (upFrom (rowsIn e) 0) (behind e) in
+    let c = up-length (rowsIn e) 0 in
+    let d = origins-length es in
+    omega arith
+
+-- the k-th row behind an entry stands k places after its first
+up-get : (n i k d : ℕ) → k < n → getD (upFrom n i) k d ≡ i + k
+unfolding upFrom
+up-get zero i k d h = absurd (omega arith)
+up-get (suc n) i zero d h = omega arith
+up-get (suc n) i (suc k) d h = up-get n (suc i) k d (omega arith) ∙ (let q : suc i + k ≡ i + suc k = omega arith in q)
+
+behind-at : (zs ys : List Origin) (e : Summary) (n k : ℕ) → k < n → originAt (zs ++ (map (behind e) (upFrom n 0) ++ ys)) (length zs + k) ≡ behind e k
+unfolding originAt
+behind-at zs ys e n k h =
+    getD-append-add zs (map (behind e) (upFrom n 0) ++ ys) k (behind blank 0)
+    ∙ List·getD-append (map (behind e) (upFrom n 0)) ys (behind blank 0) k (let a = length-map (upFrom n 0) (behind e) in let b = up-length n 0 in omega arith)
+    ∙ getD-of (map (behind e) (upFrom n 0)) k (behind blank 0) (behind e 0) (let a = length-map (upFrom n 0) (behind e) in let b = up-length n 0 in omega arith)
+    ∙ List·getD-map (behind e) (upFrom n 0) k 0 ∙ ap (behind e) (up-get n 0 k 0 h ∙ (let q : 0 + k ≡ k = omega arith in q))
   where
-    nil-of : (c : List ℕ) → length c ≡ 0 → c ≡ []
-    nil-of [] e = refl
-    nil-of (x ∷ c) e = absurd (omega arith)
+    getD-of : (l : List Origin) (k : ℕ) (c d : Origin) → k < length l → getD l k c ≡ getD l k d
+    getD-of [] k c d h = absurd (omega arith)
+    getD-of (x ∷ l) zero c d h = refl
+    getD-of (x ∷ l) (suc k) c d h = getD-of l k c d (omega arith)
 
-    go : Holding s t rows → Account t a ⊎ ((a ≡ []) × ((z : Summary) × (z .weight ≡ neg (whole 0)) × (t ≡ emptyTree z (t .running))))
-    go (inr w) = inl (owned-account s t rows a w (o .owned))
-    go (inl b) = by (b .0 .zero)
+-- places, each one further on
+up-before : (n i j : ℕ) → j < i → occurs j (upFrom n i) ≡ 0
+unfolding upFrom
+up-before zero i j h = unfold occurs in refl
+up-before (suc n) i j h =
+    let a = occurs-cons j i (upFrom n (suc i)) in let b = is-other j i (λ e. clash e) in let c = up-before n (suc i) j (omega arith) in omega arith
+  where
+    clash : j ≡ i → ⊥
+    clash e = omega arith
+
+up-on : (n i j : ℕ) → occurs (suc j) (upFrom n (suc i)) ≡ occurs j (upFrom n i)
+unfolding upFrom
+up-on zero i j = unfold occurs in refl
+up-on (suc n) i j =
+    let a = occurs-cons (suc j) (suc i) (upFrom n (suc (suc i))) in
+    let b = occurs-cons j i (upFrom n (suc i)) in
+    let c = up-on n (suc i) j in
+    let d = is-suc (same? j i) in
+    omega arith
+  where
+    is-suc : (j ≡ i) ⊎ (j ≢ i) → is (suc j) (suc i) ≡ is j i
+    is-suc (inl e) = is-same (suc j) (suc i) (ap suc e) ∙ sym (is-same j i e)
+    is-suc (inr e) = is-other (suc j) (suc i) (λ q. e (down q)) ∙ sym (is-other j i e)
       where
-        none : a ≡ []
-        none = nil-of a (owned-length o ∙ b .1)
+        down : suc j ≡ suc i → j ≡ i
+        down q = omega arith
 
-        by : Zero (b .0 .summary .weight)
-            → Account t a ⊎ ((a ≡ []) × ((z : Summary) × (z .weight ≡ neg (whole 0)) × (t ≡ emptyTree z (t .running))))
-        by (inl e) =
-            inl (subst (λ c. Account t c) (sym none) (subst (λ u. Account u []) (sym (b .0 .is)) (empty-account (b .0 .summary) (t .running) e)))
-        by (inr e) = inr (none, (b .0 .summary, e, b .0 .is))
+-- an entry that stands in the account n times in a row, and nowhere else, owns those places
+block : (i n : ℕ) (rest : List ℕ) → occurs i rest ≡ 0 → (j : ℕ) → owns (replicate n i ++ rest) i j ≡ occurs j (upFrom n 0)
+unfolding upFrom
+block i zero rest h j = owns-none rest i j h ∙ (unfold occurs in refl)
+block i (suc n) rest h zero =
+    let a = occurs-cons 0 0 (upFrom n 1) in
+    let b = is-same 0 0 refl in
+    let c = up-before n 1 0 (omega arith) in
+    let d : owns (replicate (suc n) i ++ rest) i 0 ≡ 1 = unfold owns in is-same i i refl in
+    omega arith
+block i (suc n) rest h (suc j) =
+    let a = occurs-cons (suc j) 0 (upFrom n 1) in
+    let b = is-other (suc j) 0 (λ e. clash e) in
+    let c = up-on n 0 j in
+    let d : owns (replicate (suc n) i ++ rest) i (suc j) ≡ owns (replicate n i ++ rest) i j = unfold owns in refl in
+    let e = block i n rest h j in
+    omega arith
+  where
+    clash : suc j ≡ 0 → ⊥
+    clash e = omega arith
+
+block-after : (b : List ℕ) (i n : ℕ) (rest : List ℕ) → occurs i b ≡ 0 → occurs i rest ≡ 0 → (j : ℕ) → owns (b ++ (replicate n i ++ rest)) i j ≡ occurs j (upFrom n (length b))
+block-after [] i n rest f h j = block i n rest h j
+block-after (d ∷ b) i n rest f h zero =
+    let a = occurs-cons i d b in
+    let c = up-before n (suc (length b)) 0 (omega arith) in
+    let e : owns (d ∷ (b ++ (replicate n i ++ rest))) i 0 ≡ is i d = unfold owns in refl in
+    omega arith
+block-after (d ∷ b) i n rest f h (suc j) =
+    let a = occurs-cons i d b in
+    let c = up-on n (length b) j in
+    let e : owns (d ∷ (b ++ (replicate n i ++ rest))) i (suc j) ≡ owns (b ++ (replicate n i ++ rest)) i j = unfold owns in refl in
+    let g = block-after b i n rest (omega arith) h j in
+    omega arith
+
+-- entry k of es, whose numbers begin at i, after rows zs of other entries
+entry-made : (s : Settings) (zs : List Origin) (b : List ℕ) (i : ℕ) (es : List Summary) → length b ≡ length zs → ((d : ℕ) → i ≤ d → occurs d b ≡ 0) → (k : ℕ)
+    → 0 < rowsIn (getD es k blank) → Made s (zs ++ originsOf es) (getD es k blank) (owns (b ++ standing i es) (k + i))
+unfolding originsOf standing
+entry-made s zs b i [] len off k pos = let z = exact-count blank 0 blank-exact in absurd (omega arith)
+entry-made s zs b i (e ∷ es) len off zero pos =
+    let n : i ≡ 0 + i = omega arith in
+    subst (λ c. Made s (zs ++ (map (behind e) (upFrom (rowsIn e) 0) ++ originsOf es)) e (owns (b ++ (replicate (rowsIn e) i ++ standing (suc i) es)) c)) n
+    (alike (lent e (length zs) pos (λ k h. behind-at zs (originsOf es) e (rowsIn e) k h))
+    (λ j. block-after b i (rowsIn e) (standing (suc i) es) (off i (omega arith)) (none-before (suc i) es i (omega arith)) j
+    ∙ ap (λ n. occurs j (upFrom (rowsIn e) n)) len))
+entry-made s zs b i (e ∷ es) len off (suc k) pos =
+    let n : k + suc i ≡ suc k + i = omega arith in
+    subst (λ ys. Made s ys (getD es k blank) (owns (b ++ (replicate (rowsIn e) i ++ standing (suc i) es)) (suc k + i)))
+    (append-assoc zs (map (behind e) (upFrom (rowsIn e) 0)) (originsOf es))
+    (subst (λ a. Made s ((zs ++ map (behind e) (upFrom (rowsIn e) 0)) ++ originsOf es) (getD es k blank) (owns a (suc k + i)))
+    (append-assoc b (replicate (rowsIn e) i) (standing (suc i) es))
+    (subst (λ c. Made s ((zs ++ map (behind e) (upFrom (rowsIn e) 0)) ++ originsOf es) (getD es k blank) (owns ((b ++ replicate (rowsIn e) i) ++ standing (suc i) es) c)) n
+    (entry-made s (zs ++ map (behind e) (upFrom (rowsIn e) 0)) (b ++ replicate (rowsIn e) i) (suc i) es longer others k pos)))
+  where
+    longer : length (b ++ replicate (rowsIn e) i) ≡ length (zs ++ map (behind e) (upFrom (rowsIn e) 0))
+    longer =
+        let a = length-append b (replicate (rowsIn e) i) in
+        let c = length-replicate (rowsIn e) i in
+        let d = length-append zs (map (behind e) (upFrom (rowsIn e) 0)) in
+        let f = length-map (upFrom (rowsIn e) 0) (behind e) in
+        let g = up-length (rowsIn e) 0 in
+        omega arith
+
+    others : (d : ℕ) → suc i ≤ d → occurs d (b ++ replicate (rowsIn e) i) ≡ 0
+    others d h =
+        let a = occurs-append d b (replicate (rowsIn e) i) in
+        let c = off d (omega arith) in
+        let f = occurs-others d (rowsIn e) i (λ z. clash z) in
+        omega arith
+      where
+        clash : d ≡ i → ⊥
+        clash z = omega arith
+
+pub lent-made : (s : Settings) (t : Tree) → AllMade s (originsOf (t .entries)) (entryAt t) (standing 0 (t .entries))
+lent-made s t c o =
+    let w = standing-owned t c in
+    let q : c + 0 ≡ c = omega arith in
+    subst (λ d. Made s (originsOf (t .entries)) (entryAt t c) (owns (standing 0 (t .entries)) d)) q
+    (unfold entryAt in entry-made s [] [] 0 (t .entries) refl (λ d h. unfold occurs in refl) c (unfold entryWeight entryAt in omega arith))
 
 -- ---- every accepted call on a passing tree gives a passing tree
 

@@ -5,7 +5,7 @@ use borrow.Author.Needs.{needs}
 use lib.Seq.{length-take-le}
 use native.Mathlib.Nat.{sub-zero}
 use Rattle.head.specs.Heads.{settingsOf}
-use Rattle.laws.specs.Runs.OneCall.{sizes-of}
+use Rattle.laws.specs.Runs.Serving.{sizes-of}
 use Rattle.lines.specs.Runs.{Stands}
 use Rattle.lines.specs.Rows.{row-says, malformed-read}
 use Rattle.lines.proofs.read_row.Statement.{statement}
@@ -15,7 +15,7 @@ row-line-requires : tie.Need-row-line-requires
 unfolding Stands settingsOf
 row-line-requires c κs =
     let start = c .before .before .before .before .before .before .before in
-    let few = sizes-of (start .pre .1 .public) .dim-few in omega arith
+    let few = sizes-of (start .pre .1 .serving) .dim-few in omega arith
 
 returns : tie.Need-returns
 returns c =
@@ -30,14 +30,14 @@ unfolding Stands settingsOf
 part-insert-end c =
     let row-line = c .before .before .before .before in
     let start = row-line .before .before .before .before .before .before .before .before in
-    let few = sizes-of (start .pre .1 .public) .dim-few in omega (arith, row-line .row-line .kept .1 .1 .0)
+    let few = sizes-of (start .pre .1 .serving) .dim-few in omega (arith, row-line .row-line .kept .1 .1 .0)
 
 insert-requires : tie.Need-insert-requires
 unfolding Stands settingsOf
 insert-requires c κs =
     let row-line = c .before .before .before .before .before .before .before .before .before in
     let start = row-line .before .before .before .before .before .before .before .before in
-    let few = sizes-of (start .pre .1 .public) .dim-few in
+    let few = sizes-of (start .pre .1 .serving) .dim-few in
     (start .pre .0, (start .pre .1, length-take-le _ _ (omega (arith, few, row-line .row-line .kept .1 .1 .0)) ∙ sub-zero _))
 
 returns-2 : tie.Need-returns-2

@@ -4,7 +4,7 @@
 use Prim.Native.Nat.{ℕ, zero, suc, _+_, _-_, _/_, _≤_, _<_}
 use mathlib.Core.Path.{_≡_}
 use mathlib.Core.Logic.{_⊎_}
-use mathlib.Core.Bool.{Bool, true, false, _||_, _&&_, not, cond}
+use mathlib.Core.Bool.{Bool, true, false, _||_, not, cond}
 use mathlib.Core.List.{List, [], _∷_, _++_, map, reverse}
 use mathlib.Core.Option.{Option, none, some}
 use lib.ListN.{length, getD, replicate}
@@ -28,9 +28,9 @@ use Rattle.rules.specs.Tree.{push, merge, distTo, Tree, nodeAt, entryAt, withEn
 use Rattle.rules.specs.Descent.{searched, leafFor, alongPath}
 use Rattle.rules.specs.Insert.{grown, absorbs, rowItem, Item}
 use Rattle.rules.specs.Pairs.{sorted}
-use Rattle.rules.specs.Rebuild.{Merging, mergeOne, bothAlive, target, renumber, pairsOf, across, mergeStart, mergesIn, thinned, dropped}
+use Rattle.rules.specs.Rebuild.{Merging, mergeOne, Guard, anyTwo, mergeable, target, renumber, pairsOf, across, mergeStart, mergesIn, thinned, dropped}
 use Rattle.rules.specs.Reinsert.{collected, reinserted}
-use Rattle.rules.specs.Refit.{reaccumulated, used, anyHollow}
+use Rattle.rules.specs.Refit.{reaccumulated, used, enough}
 use Rattle.rules.specs.Check.{checked, leafLists}
 use Rattle.rules.specs.Calls.{Lent, Left, Written, Listed, lentTree, created, rowInserted, batchInserted, batchRefitted, routed, spreadWritten, validated, listed}
 use Rattle.counting.specs.Count.{is}
@@ -73,11 +73,11 @@ taker i t =
 unfoldable pub mergedTo : Pair → ℕ → ℕ
 mergedTo p c = cond (eqb c (p .two)) (p .one) c
 
-unfoldable pub mergedInto : Settings → ℕ → List Pair → Merging → ℕ → ℕ
-mergedInto s zero ps m c = c
-mergedInto s (suc k) [] m c = c
-mergedInto s (suc k) (p ∷ ps) m c =
-    elim (bothAlive p (m .alive)) [ true ↦ mergedInto s k ps (mergeOne s p m) (mergedTo p c) | false ↦ mergedInto s (suc k) ps m c ]
+unfoldable pub mergedInto : Settings → Guard → ℕ → List Pair → Merging → ℕ → ℕ
+mergedInto s may zero ps m c = c
+mergedInto s may (suc k) [] m c = c
+mergedInto s may (suc k) (p ∷ ps) m c =
+    elim (mergeable may p m) [ true ↦ mergedInto s may k ps (mergeOne s p m) (mergedTo p c) | false ↦ mergedInto s may (suc k) ps m c ]
 
 -- reinsertion: an entry goes by its place among the entries in the order in which they are placed
 unfoldable pub reinsertedTo : Settings → Tree → ℕ → ℕ
@@ -89,7 +89,7 @@ rebalancedTo s far t c = cond (far || leb (s .«max_leaves») (t .running .merge
 unfoldable pub rebuiltTo : Settings → Tree → ℕ → ℕ
 rebuiltTo s t c =
     let m = mergesIn s t in
-    let d = mergedInto s (length (t .entries) - target (s .«max_leaves»)) (sorted (pairsOf s t)) (mergeStart t) c in
+    let d = mergedInto s anyTwo (length (t .entries) - target (s .«max_leaves»)) (sorted (pairsOf s t)) (mergeStart t) c in
     cond (eqb (m .count) 0) d (rebalancedTo s (across s t) (thinned t m) (renumber (m .alive) d))
 
 -- the account after a row, and after rows
@@ -113,7 +113,7 @@ refitOwners s way xs (suc k) r t a =
     let b = map (way t) xs in
     elim (every (λ b. b) alive) [
       | true ↦ b
-      | false ↦ elim (not (anyHollow (u .nodes)) && leb 1 r) [
+      | false ↦ elim (enough r u) [
         | true ↦ map (renumber alive) b
         | false ↦ refitOwners s way xs k (suc r) (reinserted s u)
             (map (reinsertedTo s u) (map (renumber alive) b))
@@ -229,12 +229,16 @@ pub record Promise (s : Settings) (t : Tree) (ys : List Origin) (a : List ℕ) :
   pub made : (c : ℕ) → c < length (t .entries) → Made s ys (entryAt t c) (owns a c)
   pub passes : checked s t ≡ Passes
 
+-- each node's weight is the float of the count of rows beneath it
+abbrev pub NodesExact : Tree → List ℕ → Type 0
+NodesExact t a = (k : ℕ) → k < length (t .nodes) → nodeAt t k .summary .weight ≡ whole (rowsAmong (collected t (length (t .nodes)) (k ∷ [])) a)
+
 -- From creation, besides: every row is a row of a call, so that an entry is made by pushing its rows and by merges alone;
--- and each node's weight is the float of its count, an empty root's too.
+-- and an empty root's weight is the float of its count too.
 pub record FromCreation (t : Tree) (ys : List Origin) (a : List ℕ) : Type 0 where
   pub rows : List (List Float)
   pub called-all : ys ≡ map called rows
-  pub nodes : (k : ℕ) → k < length (t .nodes) → nodeAt t k .summary .weight ≡ whole (rowsAmong (collected t (length (t .nodes)) (k ∷ [])) a)
+  pub nodes : NodesExact t a
 
 -- ---- one row's insert without a rebuild, from t to u; so of whatever else goes in at a leaf l
 

@@ -2,10 +2,10 @@
 -- threshold, rebuild count and merged total change in a rebuild only.
 use Prim.Native.Nat.{ℕ, zero, suc, _<_}
 use mathlib.Core.Path.{_≡_, refl, _∙_}
-use mathlib.Core.Bool.{Bool, true, false, not, _&&_}
+use mathlib.Core.Bool.{Bool, true, false}
 use mathlib.Core.List.{List, [], _∷_, map, reverse}
 use mathlib.Core.Option.{Option, none, some}
-use lib.Dec.{T, leb, eqb}
+use lib.Dec.{T, eqb}
 use lib.ListN.{length}
 use lib.Ieee.{Float, le}
 use lib.Ieee.Scale.{finite}
@@ -15,7 +15,6 @@ use Rattle.head.specs.declared.Settings.{Settings}
 use Rattle.head.specs.declared.Running.{Running}
 use Rattle.rules.specs.declared.Nearest.{Nearest}
 use Rattle.rules.specs.declared.Nearest.the-variants.{Entry, Nothing}
-use Rattle.rules.specs.Lists.{every}
 use Rattle.rules.specs.Tree.{Node, Tree, nodeAt, entryAt, merge, distBetween, withNodes, withEntries, withRoot}
 use Rattle.rules.specs.Descent.{searched, leafFor, alongPath}
 use Rattle.rules.specs.Split.{split, parted, crowned, fitting, splitNext, splitIf, splitUp, settled}
@@ -23,9 +22,10 @@ use Rattle.rules.specs.Insert.{begun, absorbed, absorbs, absorbedOrBegun, place
 use Rattle.rules.specs.Reinsert.{collected, cleared, replaced, replacedAll, reinserted}
 use Rattle.rules.specs.Refold.{refoldOne, refoldAll, refolded, preorder}
 use Rattle.rules.specs.Rebuild.{dropped}
-use Rattle.rules.specs.Refit.{reaccumulated, used, anyHollow, refitRounds, refitted}
+use Rattle.rules.specs.Refit.{refitRounds, refitted}
 use Rattle.counting.specs.Count.{either}
 use Rattle.rules.specs.Route.{Route}
+use Rattle.laws.specs.Refitting.Walk.{thin, rounds-walk}
 
 -- ---- what is asked of the numbers that run along
 
@@ -112,26 +112,12 @@ unfolding withNodes withRoot
 refolded-running s t = refolded-keeps (λ u. u .running) (λ ns u. refl) (λ r u. refl) s t
 
 rounds-running : (s : Settings) (way : Route) (xs : List (List Float)) (k r : ℕ) (t : Tree) → (refitRounds s way xs k r t) .running ≡ t .running
-unfolding refitRounds dropped withEntries withNodes
-rounds-running s way xs zero r t = refl
-rounds-running s way xs (suc k) r t =
-    go (every (λ b. b) alive) (not (anyHollow (u .nodes)) && leb 1 r) (rounds-running s way xs k (suc r) (reinserted s u) ∙ reinserted-running s u)
+rounds-running s way xs k r t =
+    rounds-walk s way xs (λ _ u _. u .running ≡ t .running) (λ u _. u .running ≡ t .running) (λ u a e. e) (λ k u a e _. unfold withEntries in e)
+    (λ k r u a e _ _. thinned u e) (λ k u a e _. reinserted-running s (thin s way xs u) ∙ thinned u e) k r t [] refl
   where
-    alive : List Bool
-    alive = map used (reaccumulated s way t xs)
-
-    u : Tree
-    u = dropped alive (withEntries (reaccumulated s way t xs) t)
-
-    go : (p q : Bool) → (refitRounds s way xs k (suc r) (reinserted s u)) .running ≡ t .running
-        → (elim p as (λ _. Tree) [
-          | true ↦ withEntries (reaccumulated s way t xs) t
-          | false ↦ elim q as (λ _. Tree)
-              [ true ↦ u | false ↦ refitRounds s way xs k (suc r) (reinserted s u) ]
-        ]) .running ≡ t .running
-    go true q ih = refl
-    go false true ih = refl
-    go false false ih = ih
+    thinned : (u : Tree) → u .running ≡ t .running → thin s way xs u .running ≡ t .running
+    thinned u e = unfold dropped withEntries withNodes in e
 
 -- threshold, merged total and rebuild count stay
 pub refitted-running : (s : Settings) (way : Route) (xs : List (List Float)) (t : Tree) → (refitted s way xs t) .running ≡ t .running

@@ -1,9 +1,9 @@
 -- What push and merge keep of a summary, and an empty one has, every step keeps of all summaries in a tree. So their shape is kept.
 use Prim.Native.Nat.{ℕ, zero, suc, _/_}
-use mathlib.Core.Bool.{Bool, true, false, not, _&&_}
+use mathlib.Core.Bool.{Bool, true, false}
 use mathlib.Core.List.{List, [], _∷_, map, foldl, reverse}
 use mathlib.Core.Option.{Option, none, some}
-use lib.Dec.{leb, ltb, eqb}
+use lib.Dec.{ltb, eqb}
 use lib.ListN.{length, getD, set, take, drop}
 use lib.Ieee.{Float}
 use Rattle.feature.specs.declared.Summary.{Summary}
@@ -11,7 +11,7 @@ use Rattle.feature.specs.Summaries.{blank}
 use Rattle.head.specs.declared.Settings.{Settings}
 use Rattle.rules.specs.declared.Nearest.{Nearest}
 use Rattle.rules.specs.declared.Nearest.the-variants.{Entry, Nothing}
-use Rattle.rules.specs.Lists.{changeAt, snoc, keep, flip, every}
+use Rattle.rules.specs.Lists.{changeAt, snoc, keep, flip}
 use Rattle.rules.specs.Tree.{Node, Tree, push, merge, distTo, distBetween, nodeAt, entryAt, blankNode, child}
 use Rattle.rules.specs.Tree.{withNodes, withEntries, withRoot, onRunning, summed, listing, adding, under}
 use Rattle.rules.specs.Descent.{searched, leafFor, climbed, alongPath}
@@ -21,15 +21,16 @@ use Rattle.rules.specs.Reinsert.{collected, cleared, replaced, replacedAll, rei
 use Rattle.rules.specs.Refold.{foldBalanced, refoldOne, refoldAll, refolded, preorder}
 use Rattle.rules.specs.Pairs.{sorted}
 use Rattle.rules.specs.declared.Pair.{Pair}
-use Rattle.rules.specs.Rebuild.{Merging, mergeOne, bothAlive, mergeAll, pruned, dropped, withMerges, pairsOf, mergeStart, mergesIn, thinned}
+use Rattle.rules.specs.Rebuild.{Merging, mergeOne, mergeAll, pruned, dropped, withMerges, pairsOf, mergeStart, mergesIn, thinned, Guard, anyTwo, mergeable}
 use Rattle.rules.specs.Rebuild.{counted, rebuilt}
-use Rattle.rules.specs.Refit.{poured, reaccumulated, used, anyHollow, refitRounds, refitted}
+use Rattle.rules.specs.Refit.{poured, reaccumulated, refitRounds, refitted}
 use Rattle.counting.specs.Count.{either}
 use Rattle.counting.specs.All.{All, all-map, all-at, all-change, all-back, all-take, all-keep, all-drop, all-append, all-set}
 use Rattle.head.specs.Counting.{withMerged}
 use Rattle.rules.specs.Route.{Route}
 use Rattle.rules.specs.Rows.{inserted, insertedAll}
 use Rattle.laws.specs.Rebuilding.Walk.{rebuilt-walk}
+use Rattle.laws.specs.Refitting.Walk.{anew, thin, usedIn, rounds-walk}
 
 abbrev OfNode : (Summary → Type 0) → Node → Type 0
 OfNode Q n = Q (n .summary)
@@ -200,11 +201,11 @@ module _ (s : Settings) (Q : Summary → Type 0) (none-q : Q blank) (push-q : (x
 
   -- ---- the rebuild
 
-  merges-q : (k : ℕ) (ps : List Pair) (m : Merging) → All Q (m .entries) → All Q ((mergeAll s k ps m) .entries)
+  merges-q : (may : Guard) (k : ℕ) (ps : List Pair) (m : Merging) → All Q (m .entries) → All Q ((mergeAll s may k ps m) .entries)
   unfolding mergeAll mergeOne
-  merges-q zero ps m h = h
-  merges-q (suc k) [] m h = h
-  merges-q (suc k) (p ∷ ps) m h = go (bothAlive p (m .alive)) (merges-q k ps (mergeOne s p m) one) (merges-q (suc k) ps m h)
+  merges-q may zero ps m h = h
+  merges-q may (suc k) [] m h = h
+  merges-q may (suc k) (p ∷ ps) m h = go (mergeable may p m) (merges-q may k ps (mergeOne s p m) one) (merges-q may (suc k) ps m h)
     where
       b : Summary
       b = getD (m .entries) (p .two) blank
@@ -212,8 +213,8 @@ module _ (s : Settings) (Q : Summary → Type 0) (none-q : Q blank) (push-q : (x
       one : All Q ((mergeOne s p m) .entries)
       one = all-change Q (λ e. merge s e b) (λ e q. merge-q e b q (all-at Q (m .entries) (p .two) blank h none-q)) (p .one) (m .entries) h
 
-      go : (l : Bool) → All Q ((mergeAll s k ps (mergeOne s p m)) .entries) → All Q ((mergeAll s (suc k) ps m) .entries)
-          → All Q ((elim l as (λ _. Merging) [ true ↦ mergeAll s k ps (mergeOne s p m) | false ↦ mergeAll s (suc k) ps m ]) .entries)
+      go : (l : Bool) → All Q ((mergeAll s may k ps (mergeOne s p m)) .entries) → All Q ((mergeAll s may (suc k) ps m) .entries)
+          → All Q ((elim l as (λ _. Merging) [ true ↦ mergeAll s may k ps (mergeOne s p m) | false ↦ mergeAll s may (suc k) ps m ]) .entries)
       go true x y = x
       go false x y = y
 
@@ -236,7 +237,7 @@ module _ (s : Settings) (Q : Summary → Type 0) (none-q : Q blank) (push-q : (x
       thin : Throughout Q (thinned t (mergesIn s t))
       thin =
           dropped-q (mergesIn s t .alive) (withMerges t (mergesIn s t)) (unfold withMerges onRunning withEntries in
-          (record { nodes = h .nodes; entries = merges-q _ (sorted (pairsOf s t)) (mergeStart t) (h .entries) }))
+          (record { nodes = h .nodes; entries = merges-q anyTwo _ (sorted (pairsOf s t)) (mergeStart t) (h .entries) }))
 
   pub insertedAll-q : (xs : List (List Float)) (t : Tree) → Throughout Q t → Throughout Q (insertedAll s xs t)
   unfolding insertedAll inserted
@@ -254,31 +255,17 @@ module _ (s : Settings) (Q : Summary → Type 0) (none-q : Q blank) (push-q : (x
   poured-q way t (x ∷ xs) es h = poured-q way t xs (changeAt (push s x) (way t x) es) (all-change Q (push s x) (push-q x) (way t x) es h)
 
   rounds-q : (way : Route) (xs : List (List Float)) (k r : ℕ) (t : Tree) → Throughout Q t → Throughout Q (refitRounds s way xs k r t)
-  unfolding refitRounds reaccumulated
-  rounds-q way xs zero r t h = h
-  rounds-q way xs (suc k) r t h = go (every (λ b. b) alive) (not (anyHollow (u .nodes)) && leb 1 r) (rounds-q way xs k (suc r) (reinserted s u) (reinserted-q u du))
+  rounds-q way xs k r t h =
+      rounds-walk s way xs (λ _ u _. Throughout Q u) (λ u _. Throughout Q u) (λ u a q. q) (λ k u a q _. poured u q)
+      (λ k r u a q _ _. thinned u q) (λ k u a q _. reinserted-q (thin s way xs u) (thinned u q)) k r t [] h
     where
-      es : List Summary
-      es = reaccumulated s way t xs
+      poured : (u : Tree) → Throughout Q u → Throughout Q (anew s way xs u)
+      poured u q =
+          entries-q (reaccumulated s way u xs) u
+          (unfold reaccumulated in poured-q way u xs (map (λ _. blank) (u .entries)) (all-map Q (λ _. blank) (λ _. none-q) (u .entries))) q
 
-      alive : List Bool
-      alive = map used es
-
-      w : Throughout Q (withEntries es t)
-      w = entries-q es t (unfold reaccumulated in poured-q way t xs (map (λ _. blank) (t .entries)) (all-map Q (λ _. blank) (λ _. none-q) (t .entries))) h
-
-      u : Tree
-      u = dropped alive (withEntries es t)
-
-      du : Throughout Q u
-      du = dropped-q alive (withEntries es t) w
-
-      go : (p q : Bool) → Throughout Q (refitRounds s way xs k (suc r) (reinserted s u))
-          → Throughout Q
-          (elim p as (λ _. Tree) [ true ↦ withEntries es t | false ↦ elim q as (λ _. Tree) [ true ↦ u | false ↦ refitRounds s way xs k (suc r) (reinserted s u) ] ])
-      go true q ih = w
-      go false true ih = du
-      go false false ih = ih
+      thinned : (u : Tree) → Throughout Q u → Throughout Q (thin s way xs u)
+      thinned u q = dropped-q (usedIn s way xs u) (anew s way xs u) (poured u q)
 
   pub refitted-q : (way : Route) (xs : List (List Float)) (t : Tree) → Throughout Q t → Throughout Q (refitted s way xs t)
   unfolding refitted

@@ -1,13 +1,13 @@
 -- A row's line: only a full tree refuses a row of dim floats, and any other goes on as the rules say.
 use Prim.Native.Nat.{ℕ, suc, _+_, _-_, _≤_, _<_}
-use mathlib.Core.List.{List, [], _∷_, _++_}
+use mathlib.Core.List.{List, [], _∷_}
 use mathlib.Core.Option.{Option, none, some}
 use mathlib.Core.Path.{_≡_, refl, sym, ap, subst, _∙_}
 use native.Mathlib.Nat.{sub-zero}
 use native.Mathlib.Omega.{arith}
 use native.Mathlib.Numerals.{add-one}
 use borrow.Author.Tests.{le-leb, lt-leb, eq-eqb}
-use lib.ListN.{length, take, length-append}
+use lib.ListN.{length, take}
 use lib.Ieee.{Float}
 use Rattle.binary64.specs.Whole.{most}
 use Rattle.head.specs.declared.Head.{Head}
@@ -19,19 +19,16 @@ use Rattle.rules.specs.Check.{checked, totalOf}
 use Rattle.rules.specs.Slices.{countersOf}
 use Rattle.rules.specs.Calls.{Lent, Left, unless, rowAsked, lentTree, changed, rowShapeRefusal, insertFullRefusal}
 use Rattle.rules.specs.CallLaws.{Ready, changed-settings}
-use Rattle.rules.specs.Cleared.{changed-tree}
 use Rattle.rules.specs.Listing.{badLine, rowIn, lineIn, rowsListed}
 use Rattle.rules.specs.declared.Verdict.the-variants.{Passes}
 use Rattle.head.specs.declared.refusal.Refusal.the-variants.{Full}
 use Rattle.rules.specs.Lists.{rowsOf}
-use Rattle.laws.specs.Demand.{ownersAll}
 use Rattle.laws.specs.Runs.Runs as Past
 use Rattle.work.specs.declared.Work.the-variants.{Insert}
 use Rattle.work.specs.Worked.{worked, Workable, one-row}
 use Rattle.laws.specs.Shapes.{ShapedTree, batch-shaped}
 use Rattle.laws.specs.Check.Both.{AtRest, resting-passes}
 use Rattle.laws.specs.Runs.Calls.{row-rests}
-use Rattle.laws.specs.Runs.Fitting.{resting-fits}
 use Rattle.laws.specs.Runs.Threshold.{inserted-fine}
 use Rattle.laws.specs.Runs.Runs.{rest-total}
 use Rattle.laws.specs.Runs.Serving.{Serving, sizes-of, left-tree, serving-next}

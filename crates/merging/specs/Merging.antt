@@ -87,7 +87,7 @@ pub record Ended (t u : Tree) (bs : List Bool) (r : Merges) (m : Merging) : Type
 unfoldable pub PairsMerged : Settings → Counters → ℕ → ℕ → List Float → List ℕ → Merges → List Float → List ℕ → Type 0
 PairsMerged s n pairs most fs ns r gs ms =
     (cs : List Float) (ls : List ℕ) → Ended (treeOf s n fs ls) (treeOf s n gs ls) (aliveIn ms (n .entries)) r
-    (mergeAll s most (pairsIn cs ns pairs) (startOf (treeOf s n fs ls) (aliveIn ns (n .entries))))
+    (mergeAll s anyTwo most (pairsIn cs ns pairs) (startOf (treeOf s n fs ls) (aliveIn ns (n .entries))))
 
 -- ---- one pair
 
@@ -141,28 +141,28 @@ module _ (s : Settings) (n : Counters) (k : ℕ) (m : Merges) (fs : List Float) 
 
 module _ (s : Settings) where
   -- no more merges are wanted, and no pairs are left
-  merge-full : (k : ℕ) (ps : List Pair) (m : Merging) → k ≡ 0 → mergeAll s k ps m ≡ m
-  unfolding mergeAll
-  merge-full k ps m e = ap (λ j. mergeAll s j ps m) e
+  merge-full : (k : ℕ) (ps : List Pair) (m : Merging) → k ≡ 0 → mergeAll s anyTwo k ps m ≡ m
+  unfolding mergeAll mergeable
+  merge-full k ps m e = ap (λ j. mergeAll s anyTwo j ps m) e
 
-  merge-none : (k : ℕ) (m : Merging) → mergeAll s k [] m ≡ m
-  unfolding mergeAll
+  merge-none : (k : ℕ) (m : Merging) → mergeAll s anyTwo k [] m ≡ m
+  unfolding mergeAll mergeable
   merge-none zero m = refl
   merge-none (suc k) m = refl
 
   -- the next pair
   merge-next : (most : ℕ) (p : Pair) (ps : List Pair) (m : Merging) → m .count < most
-      → mergeAll s (most - mergePair s p m .count) ps (mergePair s p m) ≡ mergeAll s (most - m .count) (p ∷ ps) m
-  unfolding mergeAll mergePair mergeOne
+      → mergeAll s anyTwo (most - mergePair s p m .count) ps (mergePair s p m) ≡ mergeAll s anyTwo (most - m .count) (p ∷ ps) m
+  unfolding mergeAll mergeable mergePair mergeOne
   merge-next most p ps m h =
       let k : most - m .count ≡ suc (most - suc (m .count)) = omega arith in
-      go (bothAlive p (m .alive)) k ∙ sym (ap (λ j. mergeAll s j (p ∷ ps) m) k)
+      go (bothAlive p (m .alive)) k ∙ sym (ap (λ j. mergeAll s anyTwo j (p ∷ ps) m) k)
     where
       go : (b : Bool) → most - m .count ≡ suc (most - suc (m .count))
-          → mergeAll s (most - cond b (mergeOne s p m) m .count) ps (cond b (mergeOne s p m) m)
-          ≡ elim b [ true ↦ mergeAll s (most - suc (m .count)) ps (mergeOne s p m) | false ↦ mergeAll s (suc (most - suc (m .count))) ps m ]
+          → mergeAll s anyTwo (most - cond b (mergeOne s p m) m .count) ps (cond b (mergeOne s p m) m)
+          ≡ elim b [ true ↦ mergeAll s anyTwo (most - suc (m .count)) ps (mergeOne s p m) | false ↦ mergeAll s anyTwo (suc (most - suc (m .count))) ps m ]
       go true k = refl
-      go false k = ap (λ j. mergeAll s j ps m) k
+      go false k = ap (λ j. mergeAll s anyTwo j ps m) k
 
 -- k pairs are looked at: what is left to merge from here gives the whole
 pub record Midway (s : Settings) (n : Counters) (pairs most : ℕ) (fs : List Float) (ns : List ℕ) (k : ℕ) (m : Merges) (gs : List Float) (ms : List ℕ)
@@ -170,8 +170,8 @@ pub record Midway (s : Settings) (n : Counters) (pairs most : ℕ) (fs : List Fl
   pub few : m .count ≤ k
   pub within : m .count ≤ most
   pub same : SamePairs ns ms
-  pub left : (cs : List Float) → mergeAll s (most - m .count) (drop k (pairsIn cs ns pairs)) (mergingIn s n gs ms m)
-      ≡ mergeAll s most (pairsIn cs ns pairs) (mergingIn s n fs ns noMerges)
+  pub left : (cs : List Float) → mergeAll s anyTwo (most - m .count) (drop k (pairsIn cs ns pairs)) (mergingIn s n gs ms m)
+      ≡ mergeAll s anyTwo most (pairsIn cs ns pairs) (mergingIn s n fs ns noMerges)
   pub tree : OnlyEntries s n fs gs
 
 module _ (s : Settings) (n : Counters) (pairs most : ℕ) (fs : List Float) (ns : List ℕ) where
@@ -182,7 +182,7 @@ module _ (s : Settings) (n : Counters) (pairs most : ℕ) (fs : List Float) (ns 
         few = omega arith;
         within = omega arith;
         same = same-none ns;
-        left = λ cs. ap (λ j. mergeAll s j (pairsIn cs ns pairs) (mergingIn s n fs ns noMerges)) (omega arith);
+        left = λ cs. ap (λ j. mergeAll s anyTwo j (pairsIn cs ns pairs) (mergingIn s n fs ns noMerges)) (omega arith);
         tree = λ ls. refl;
       }
 
@@ -203,14 +203,14 @@ module _ (s : Settings) (n : Counters) (pairs most : ℕ) (fs : List Float) (ns 
           within = omega (arith, g .within, p .few);
           same = same-more ns ms os (g .same) (p .pairs);
           left = λ cs.
-              ap (λ z. mergeAll s (most - z .count) (drop (k + 1) (pairsIn cs ns pairs)) z) (p .state cs)
+              ap (λ z. mergeAll s anyTwo (most - z .count) (drop (k + 1) (pairsIn cs ns pairs)) z) (p .state cs)
               ∙ merge-next s most (pairAt cs ms k) (drop (k + 1) (pairsIn cs ns pairs)) (mergingIn s n gs ms m) (omega (arith, g .within))
-              ∙ ap (λ ps. mergeAll s (most - m .count) ps (mergingIn s n gs ms m)) (sym (here cs h)) ∙ g .left cs;
+              ∙ ap (λ ps. mergeAll s anyTwo (most - m .count) ps (mergingIn s n gs ms m)) (sym (here cs h)) ∙ g .left cs;
           tree = only-more s n fs gs hs (g .tree) (p .tree);
         }
 
     -- the merges are done
-    done-all : ((cs : List Float) → mergingIn s n gs ms m ≡ mergeAll s most (pairsIn cs ns pairs) (mergingIn s n fs ns noMerges))
+    done-all : ((cs : List Float) → mergingIn s n gs ms m ≡ mergeAll s anyTwo most (pairsIn cs ns pairs) (mergingIn s n fs ns noMerges))
         → PairsMerged s n pairs most fs ns m gs ms
     unfolding PairsMerged mergingIn startOf noMerges OnlyEntries treeOf
     done-all e = λ cs ls.
@@ -227,7 +227,7 @@ module _ (s : Settings) (n : Counters) (pairs most : ℕ) (fs : List Float) (ns 
     pub midway-end : pairs ≤ k → PairsMerged s n pairs most fs ns m gs ms
     midway-end h = done-all (λ cs.
         let none : drop k (pairsIn cs ns pairs) ≡ [] = drop-of-length-le (pairsIn cs ns pairs) {i = k} (rw (length-pairs cs ns pairs) h) in
-        sym (ap (λ ps. mergeAll s (most - m .count) ps (mergingIn s n gs ms m)) none ∙ merge-none s (most - m .count) (mergingIn s n gs ms m)) ∙ g .left cs)
+        sym (ap (λ ps. mergeAll s anyTwo (most - m .count) ps (mergingIn s n gs ms m)) none ∙ merge-none s (most - m .count) (mergingIn s n gs ms m)) ∙ g .left cs)
 
 -- ---- what a rebuild has
 

@@ -28,7 +28,7 @@ use Rattle.rebuild.specs.Counted.{mergedCounts}
 
 -- what the rules make of the pairs ps
 unfoldable pub allMerges : Settings → List Pair → Tree → Merging
-allMerges s ps t = mergeAll s (length (t .entries) - target (s .«max_leaves»)) (sorted ps) (mergeStart t)
+allMerges s ps t = mergeAll s anyTwo (length (t .entries) - target (s .«max_leaves»)) (sorted ps) (mergeStart t)
 
 -- and of the tree, where far says whether they are cousins
 unfoldable pub compactedBy : Settings → Bool → List Pair → Tree → Tree
@@ -56,34 +56,34 @@ module _ (s : Settings) (n : Counters) (ps : List Pair) (pairs : ℕ) (cs : List
     all-merged em up h = λ ls.
         let t = treeOf s n fs ls in
         let start : startOf t (aliveIn os (n .entries)) ≡ mergeStart t = ap (startOf t) up ∙ start-all s n fs ls in
-        let is : mergeAll s most (pairsIn cs os pairs) (startOf t (aliveIn os (n .entries))) ≡ allMerges s ps t =
+        let is : mergeAll s anyTwo most (pairsIn cs os pairs) (startOf t (aliveIn os (n .entries))) ≡ allMerges s ps t =
         rw (em, as-sorted, start, count-entries s n fs ls) in
         subst (Ended t (treeOf s n gs ls) (aliveIn ms (n .entries)) r) is (h cs ls)
 
 -- ---- no merge, and nothing has changed
 
-grows : (s : Settings) (k : ℕ) (ps : List Pair) (m : Merging) → m .count ≤ mergeAll s k ps m .count
-unfolding mergeAll
+grows : (s : Settings) (k : ℕ) (ps : List Pair) (m : Merging) → m .count ≤ mergeAll s anyTwo k ps m .count
+unfolding mergeAll mergeable
 grows s zero ps m = omega arith
 grows s (suc k) [] m = omega arith
 grows s (suc k) (p ∷ ps) m = go (bothAlive p (m .alive)) (grows s k ps (mergeOne s p m)) (grows s (suc k) ps m)
   where
-    go : (b : Bool) → mergeOne s p m .count ≤ mergeAll s k ps (mergeOne s p m) .count → m .count ≤ mergeAll s (suc k) ps m .count
-        → m .count ≤ (elim b as (λ _. Merging) [ true ↦ mergeAll s k ps (mergeOne s p m) | false ↦ mergeAll s (suc k) ps m ]) .count
-    go true a b = let c : suc (m .count) ≤ mergeAll s k ps (mergeOne s p m) .count = (unfold mergeOne in a) in omega arith
+    go : (b : Bool) → mergeOne s p m .count ≤ mergeAll s anyTwo k ps (mergeOne s p m) .count → m .count ≤ mergeAll s anyTwo (suc k) ps m .count
+        → m .count ≤ (elim b as (λ _. Merging) [ true ↦ mergeAll s anyTwo k ps (mergeOne s p m) | false ↦ mergeAll s anyTwo (suc k) ps m ]) .count
+    go true a b = let c : suc (m .count) ≤ mergeAll s anyTwo k ps (mergeOne s p m) .count = (unfold mergeOne in a) in omega arith
     go false a b = b
 
-none-merged : (s : Settings) (k : ℕ) (ps : List Pair) (m : Merging) → mergeAll s k ps m .count ≡ m .count → mergeAll s k ps m .entries ≡ m .entries
-unfolding mergeAll
+none-merged : (s : Settings) (k : ℕ) (ps : List Pair) (m : Merging) → mergeAll s anyTwo k ps m .count ≡ m .count → mergeAll s anyTwo k ps m .entries ≡ m .entries
+unfolding mergeAll mergeable
 none-merged s zero ps m e = refl
 none-merged s (suc k) [] m e = refl
 none-merged s (suc k) (p ∷ ps) m e = go (bothAlive p (m .alive)) e (grows s k ps (mergeOne s p m)) (λ q. none-merged s (suc k) ps m q)
   where
-    go : (b : Bool) → (elim b as (λ _. Merging) [ true ↦ mergeAll s k ps (mergeOne s p m) | false ↦ mergeAll s (suc k) ps m ]) .count ≡ m .count
-        → mergeOne s p m .count ≤ mergeAll s k ps (mergeOne s p m) .count
-        → (mergeAll s (suc k) ps m .count ≡ m .count → mergeAll s (suc k) ps m .entries ≡ m .entries)
-        → (elim b as (λ _. Merging) [ true ↦ mergeAll s k ps (mergeOne s p m) | false ↦ mergeAll s (suc k) ps m ]) .entries ≡ m .entries
-    go true e a ih = let c : suc (m .count) ≤ mergeAll s k ps (mergeOne s p m) .count = (unfold mergeOne in a) in absurd (omega arith)
+    go : (b : Bool) → (elim b as (λ _. Merging) [ true ↦ mergeAll s anyTwo k ps (mergeOne s p m) | false ↦ mergeAll s anyTwo (suc k) ps m ]) .count ≡ m .count
+        → mergeOne s p m .count ≤ mergeAll s anyTwo k ps (mergeOne s p m) .count
+        → (mergeAll s anyTwo (suc k) ps m .count ≡ m .count → mergeAll s anyTwo (suc k) ps m .entries ≡ m .entries)
+        → (elim b as (λ _. Merging) [ true ↦ mergeAll s anyTwo k ps (mergeOne s p m) | false ↦ mergeAll s anyTwo (suc k) ps m ]) .entries ≡ m .entries
+    go true e a ih = let c : suc (m .count) ≤ mergeAll s anyTwo k ps (mergeOne s p m) .count = (unfold mergeOne in a) in absurd (omega arith)
     go false e a ih = ih e
 
 module _ (s : Settings) (n : Counters) (ps : List Pair) (r : Merges) (fs gs : List Float) (ms ls : List ℕ)

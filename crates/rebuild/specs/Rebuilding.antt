@@ -76,7 +76,7 @@ module _ (s : Settings) (t : Tree) (w : Rebuildable s t) where
 
   module _ (ps : List Pair) (far : Every (FarPair (length (t .entries))) ps) where
     abbrev pub merges : Merging
-    merges = mergeAll s (length (t .entries) - target (s .«max_leaves»)) (sorted ps) (mergeStart t)
+    merges = mergeAll s anyTwo (length (t .entries) - target (s .«max_leaves»)) (sorted ps) (mergeStart t)
 
     done : Merged s (length (t .entries)) (w .rows) merges
     done = merges-far settled (w .whole .2) ps far

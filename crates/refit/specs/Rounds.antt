@@ -1,11 +1,10 @@
 -- One round of a refit and all of them, as the code goes through them.
 use Prim.Native.Nat.{ℕ, suc, _+_, _-_, _≤_, _<_}
 use mathlib.Core.Path.{_≡_, refl, sym, ap, ap₂, _∙_, subst}
-use mathlib.Core.Bool.{Bool, true, false, not, _&&_, false≢true}
+use mathlib.Core.Bool.{Bool, true, false, false≢true}
 use mathlib.Core.List.{List, map}
 use native.Mathlib.Numerals.{add-one}
 use native.Mathlib.Omega.{arith}
-use lib.Dec.{leb}
 use lib.ListN.{length, length-map}
 use lib.Ieee.{Float}
 use Rattle.binary64.specs.Whole.{most}
@@ -19,7 +18,7 @@ use Rattle.rules.specs.Tree.{Tree, withNodes, withEntries}
 use Rattle.rules.specs.Slices.{treeOf}
 use Rattle.rules.specs.Rebuild.{pruned, dropped}
 use Rattle.rules.specs.Reinsert.{reinserted}
-use Rattle.rules.specs.Refit.{reaccumulated, used, anyHollow, refitRounds}
+use Rattle.rules.specs.Refit.{reaccumulated, used, enough, refitRounds}
 use Rattle.laws.specs.Invariant.Sound.{caps-of}
 use Rattle.laws.specs.Refitting.Round as R
 use Rattle.laws.specs.ForCode.{settled-framed, settled-standing}
@@ -49,7 +48,7 @@ after t b = record { tree = t; last = b }
 
 -- unused entries have been dropped: that is the last tree if r rounds, one at least, have reinserted and no leaf was emptied
 unfoldable pub placedAgain : Settings → ℕ → Tree → After
-placedAgain s r u = elim (not (anyHollow (u .nodes)) && leb 1 r) [ true ↦ after u true | false ↦ after (reinserted s u) false ]
+placedAgain s r u = elim (enough r u) [ true ↦ after u true | false ↦ after (reinserted s u) false ]
 
 -- the entries made anew: that is the last tree if all are used
 unfoldable pub oneRound : Settings → List (List Float) → ℕ → Tree → After
@@ -58,7 +57,7 @@ oneRound s xs r t =
     elim (every (λ b. b) (map used es)) [ true ↦ after (withEntries es t) true | false ↦ placedAgain s r (dropped (map used es) (withEntries es t)) ]
 
 -- by what the code finds of the tree w
-module _ (s : Settings) (r : ℕ) {w u : Tree} (d : w ≡ u) {b : Bool} (e : b ≡ (not (anyHollow (w .nodes)) && leb 1 r)) where
+module _ (s : Settings) (r : ℕ) {w u : Tree} (d : w ≡ u) {b : Bool} (e : b ≡ enough r w) where
   -- the two ways on
   abbrev on : Bool → After
   on true = after w true
@@ -129,7 +128,7 @@ module _ (s : Settings) (xs : List (List Float)) (t : Tree) (p : Pourable s (len
   -- so is what a round leaves that was not the last
   next-pourable : (r : ℕ) {v : Tree} → Sized s → after v false ≡ oneRound s xs r t → Pourable s (length xs) v
   unfolding oneRound placedAgain
-  next-pourable r {v} z e = go (every (λ b. b) (map used (reaccumulated s (greedy s) t xs))) (not (anyHollow (thin .nodes)) && leb 1 r) e
+  next-pourable r {v} z e = go (every (λ b. b) (map used (reaccumulated s (greedy s) t xs))) (enough r thin) e
     where
       go : (b c : Bool)
           → after v false ≡ (elim b as (λ _. After) [
@@ -163,7 +162,7 @@ goneOn s xs k r a = elim (a .last) [ true ↦ a .tree | false ↦ refitRounds s 
 
 round-first : (s : Settings) (xs : List (List Float)) (k r : ℕ) (t : Tree) → refitRounds s (greedy s) xs (suc k) r t ≡ goneOn s xs k r (oneRound s xs r t)
 unfolding refitRounds goneOn oneRound placedAgain
-round-first s xs k r t = go (every (λ b. b) (map used (reaccumulated s (greedy s) t xs))) (not (anyHollow (u .nodes)) && leb 1 r)
+round-first s xs k r t = go (every (λ b. b) (map used (reaccumulated s (greedy s) t xs))) (enough r u)
   where
     u : Tree
     u = dropped (map used (reaccumulated s (greedy s) t xs)) (withEntries (reaccumulated s (greedy s) t xs) t)

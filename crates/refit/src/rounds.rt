@@ -8,7 +8,7 @@ ghost use Rattle.rules.specs.Lists.{rowsOf};
 ghost use Rattle.rules.specs.Tree.{nodeAt};
 ghost use Rattle.rules.specs.Slices.{treeOf};
 ghost use Rattle.rules.specs.Rebuild.{dropped};
-ghost use Rattle.rules.specs.Refit.{hollow, anyHollow, refitRounds};
+ghost use Rattle.rules.specs.Refit.{hollow, anyHollow, enough, refitRounds};
 ghost use Rattle.arena.specs.Trees.{AnyFloats, Floats, Links};
 ghost use Rattle.scratch.specs.Flags.{aliveIn};
 ghost use Rattle.merging.specs.Pruning.{LeavesIn};
@@ -52,7 +52,7 @@ fn any_hollow(s: Settings, n: Counters, links: &[u32]) -> bool
 // Whether a tree without its unused entries stays as it is: a round has reinserted, and no leaf was emptied.
 fn enough(s: Settings, n: Counters, links: &[u32], done: usize) -> bool
     requires { ⌜ Links s n (length (now links)) ⌝ }
-    ensures { λ r. ⌜ AnyFloats s n (now (links .entry)) (λ t. r ≡ (not (anyHollow (t .nodes)) && leb 1 done)) ⌝ }
+    ensures { λ r. ⌜ AnyFloats s n (now (links .entry)) (λ t. r ≡ enough done t) ⌝ }
 {
     if any_hollow(s, n, links) {
         return false;

@@ -51,11 +51,22 @@ mergeOne s p m =
 unfoldable pub bothAlive : Pair → List Bool → Bool
 bothAlive p bs = getD bs (p .one) false && getD bs (p .two) false
 
--- the pairs in order, those with a merged-away member skipped; k merges at most
-unfoldable pub mergeAll : Settings → ℕ → List Pair → Merging → Merging
-mergeAll s zero ps m = m
-mergeAll s (suc k) [] m = m
-mergeAll s (suc k) (p ∷ ps) m = elim (bothAlive p (m .alive)) [ true ↦ mergeAll s k ps (mergeOne s p m) | false ↦ mergeAll s (suc k) ps m ]
+-- which two may be merged, and that any two may
+abbrev pub Guard : Type 0
+Guard = Summary → Summary → Bool
+
+abbrev pub anyTwo : Guard
+anyTwo a b = true
+
+-- whether a pair is merged: its two may be, and neither is merged away
+unfoldable pub mergeable : Guard → Pair → Merging → Bool
+mergeable may p m = may (getD (m .entries) (p .one) blank) (getD (m .entries) (p .two) blank) && bothAlive p (m .alive)
+
+-- the pairs in order, k merges at most
+unfoldable pub mergeAll : Settings → Guard → ℕ → List Pair → Merging → Merging
+mergeAll s may zero ps m = m
+mergeAll s may (suc k) [] m = m
+mergeAll s may (suc k) (p ∷ ps) m = elim (mergeable may p m) [ true ↦ mergeAll s may k ps (mergeOne s p m) | false ↦ mergeAll s may (suc k) ps m ]
 
 -- ---- the threshold
 
@@ -109,7 +120,7 @@ mergeStart t = record { entries = t .entries; alive = map (λ _. true) (t .entri
 
 -- by cost, until the target is reached
 abbrev pub mergesIn : Settings → Tree → Merging
-mergesIn s t = mergeAll s (length (t .entries) - target (s .«max_leaves»)) (sorted (pairsOf s t)) (mergeStart t)
+mergesIn s t = mergeAll s anyTwo (length (t .entries) - target (s .«max_leaves»)) (sorted (pairsOf s t)) (mergeStart t)
 
 -- each rebuild's merges raise the threshold and add to the merged total
 unfoldable pub mergesOn : ℕ → Float → Running → Running

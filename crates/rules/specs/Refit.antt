@@ -36,6 +36,10 @@ unfoldable pub anyHollow : List Node → Bool
 anyHollow [] = false
 anyHollow (n ∷ ns) = hollow n || anyHollow ns
 
+-- enough, after r reinsertions: there was one, and no leaf was emptied
+unfoldable pub enough : ℕ → Tree → Bool
+enough r u = not (anyHollow (u .nodes)) && leb 1 r
+
 -- the rounds: unused entries are dropped; reinsert and repeat once, and whenever a leaf was emptied; k rounds at most, r of them have reinserted
 unfoldable pub refitRounds : Settings → Route → List (List Float) → ℕ → ℕ → Tree → Tree
 refitRounds s way xs zero r t = t
@@ -45,7 +49,7 @@ refitRounds s way xs (suc k) r t =
     let u = dropped alive (withEntries es t) in
     elim (every (λ b. b) alive) [
       | true ↦ withEntries es t
-      | false ↦ elim (not (anyHollow (u .nodes)) && leb 1 r) [ true ↦ u | false ↦ refitRounds s way xs k (suc r) (reinserted s u) ]
+      | false ↦ elim (enough r u) [ true ↦ u | false ↦ refitRounds s way xs k (suc r) (reinserted s u) ]
     ]
 
 -- with no entries or no rows nothing happens; an effective refit refolds once at its end

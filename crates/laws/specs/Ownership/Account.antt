@@ -21,7 +21,7 @@ use Rattle.laws.specs.Inserting.Grown.{Whole}
 use Rattle.counting.specs.Totals.{over-sum}
 use Rattle.laws.specs.Rebuilding.Reinsert.{entries-total}
 use Rattle.laws.specs.Check.Beneath.{beneath-weighs, beneath-once}
-use Rattle.laws.specs.Demand.{rowsAmong, Account}
+use Rattle.laws.specs.Demand.{rowsAmong, Account, NodesExact}
 use Rattle.laws.specs.Ownership.Owned.{Owned, owner-in}
 use Rattle.counting.specs.Places.{get-occurs}
 use Rattle.laws.specs.Inserting.First.{Holding, Zero, emptyTree, zero-eq}
@@ -70,7 +70,7 @@ module _ (s : Settings) (t : Tree) (total : ℕ) (a : List ℕ) (w : Whole s t t
       ∙ sym (rows-over (collected t (length (t .nodes)) (k ∷ [])) a (λ c. beneath-once t (w .1 .links) k c h))
 
   -- its weight is their count, to the bit
-  pub nodes-exact : (k : ℕ) → k < length (t .nodes) → nodeAt t k .summary .weight ≡ whole (rowsAmong (collected t (length (t .nodes)) (k ∷ [])) a)
+  pub nodes-exact : NodesExact t a
   nodes-exact k h = w .1 .exact .at-node k h .0 ∙ ap (λ n. whole n) (sym read ∙ rows-beneath k h)
     where
       read : nodeWeight t k ≡ rowsIn (nodeAt t k .summary)

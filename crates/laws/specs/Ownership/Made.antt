@@ -114,13 +114,6 @@ origin-in ys i o e h = go (lt? i (length ys))
         let q : standsFor o ≡ 0 = ap standsFor (sym e ∙ past-end ys (behind blank 0) i l) ∙ none in
         absurd (omega arith)
 
--- among rows of calls nothing stands behind an entry: what is made of them is made without lent entries
-pub none-behind : (xs : List (List Float)) (i : ℕ) (e : Summary) (k : ℕ) → 0 < rowsIn e → originAt (map called xs) i ≡ behind e k → ⊥
-unfolding originAt
-none-behind [] i e k pos q = let z : standsFor (behind e k) ≡ rowsIn e = unfold standsFor in refl in let l = origin-in [] i (behind e k) (unfold originAt in q) (omega arith) in omega arith
-none-behind (x ∷ xs) zero e k pos q = let z : _≡_ {A = ℕ} 0 1 = cc in omega arith
-none-behind (x ∷ xs) (suc i) e k pos q = none-behind xs i e k pos (unfold originAt in q)
-
 -- so it stays at its place when more rows come
 origin-kept : (ys : List Origin) (z : Origin) (i : ℕ) (o : Origin) → originAt ys i ≡ o → 0 < standsFor o → originAt (snoc ys z) i ≡ o
 unfolding originAt
@@ -142,6 +135,14 @@ made-kept z (alike m h) = alike (made-kept z m) h
 made-row : {s : Settings} {ys : List Origin} {e : Summary} {p : ℕ → ℕ} (x : List Float) → Made s ys e p
     → Made s (snoc ys (called x)) (push s x e) (λ i. is i (length ys) + p i)
 made-row {s} {ys} x m = taking (length ys) x (unfold originAt in snoc-at ys (called x) (behind blank 0)) (made-kept (called x) m)
+
+-- among rows of calls nothing stands behind an entry: what is made of them is made without lent entries
+pub none-behind : (xs : List (List Float)) (i : ℕ) (e : Summary) (k : ℕ) → 0 < rowsIn e → originAt (map called xs) i ≡ behind e k → ⊥
+unfolding originAt
+none-behind [] i e k pos q =
+    let z : standsFor (behind e k) ≡ rowsIn e = unfold standsFor in refl in let l = origin-in [] i (behind e k) (unfold originAt in q) (omega arith) in omega arith
+none-behind (x ∷ xs) zero e k pos q = let z : _≡_ {A = ℕ} 0 1 = cc in omega arith
+none-behind (x ∷ xs) (suc i) e k pos q = none-behind xs i e k pos (unfold originAt in q)
 
 -- ---- a row more, whoever takes it
 

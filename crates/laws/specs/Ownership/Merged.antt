@@ -14,7 +14,7 @@ use Rattle.rules.specs.Lists.{snoc, occurs}
 use Rattle.rules.specs.Tree.{Tree, nodeAt, entryAt, onRunning, withEntries, rowsIn}
 use Rattle.rules.specs.Pairs.{sorted}
 use Rattle.rules.specs.declared.Pair.{Pair}
-use Rattle.rules.specs.Rebuild.{Merging, mergeOne, bothAlive, mergeAll, target, renumber, dropped, pairsOf, mergeStart, mergesIn, thinned}
+use Rattle.rules.specs.Rebuild.{Merging, mergeOne, bothAlive, mergeAll, target, renumber, dropped, pairsOf, mergeStart, mergesIn, thinned, Guard, anyTwo, mergeable}
 use Rattle.rules.specs.Rebuild.{withMerges, counted, rebuilt}
 use Rattle.rules.specs.Reinsert.{collected, replaced, replacedAll, cleared, reinserted}
 use Rattle.rules.specs.Refold.{refolded}
@@ -27,7 +27,7 @@ use Rattle.laws.specs.Invariant.Beneath.{Frame}
 use Rattle.counting.specs.Flags.{alive, alive-up, alive-down, is-sum, flag?}
 use Rattle.laws.specs.Invariant.Collected.{collect-sum}
 use Rattle.laws.specs.Rebuilding.Reinsert.{place-entries}
-use Rattle.laws.specs.Rebuilding.Merge.{Merged, mergeWeight, merged-one, Every, aw-a, aw-b, aw-o, up-a, up-b, entry-a, entry-o}
+use Rattle.laws.specs.Rebuilding.Merge.{Merged, mergeWeight, merged-one, Every, aw-a, aw-b, aw-o, up-a, up-b, entry-a, entry-o, able-alive}
 use Rattle.laws.specs.Rebuilding.Pairs.{every-sorted}
 use Rattle.laws.specs.Rebuilding.Cousins.{FarPair}
 use Rattle.laws.specs.Rebuilding.Rebuilt.{begun-alive, frame-v, begun-merged, merges-one, merges-merged, pairs-far}
@@ -58,24 +58,24 @@ module _ {s : Settings} {n total : ℕ} (p : Pair) {m : Merging} (b : total ≤ 
       (some-at (p .one) (up-a p b g d l)) (some-at (p .two) (up-b p b g d l)) (entry-a p b g d l) (entry-o p b g d l)
 
 -- the merges move each row with the entry that it is in
-pub merges-carry : (s : Settings) (n total : ℕ) → total ≤ most → (k : ℕ) (ps : List Pair) (m : Merging) → Merged s n total m → Every (FarPair n) ps
-    → Carries s (λ c. mergedInto s k ps m c) (heldIn s m) (heldIn s (mergeAll s k ps m))
+pub merges-carry : (s : Settings) (may : Guard) (n total : ℕ) → total ≤ most → (k : ℕ) (ps : List Pair) (m : Merging) → Merged s n total m → Every (FarPair n) ps
+    → Carries s (λ c. mergedInto s may k ps m c) (heldIn s m) (heldIn s (mergeAll s may k ps m))
 unfolding mergeAll mergedInto
-merges-carry s n total b zero ps m g f = carries-same s (heldIn s m) (heldIn s m) (λ c. refl) (λ c. refl)
-merges-carry s n total b (suc k) [] m g f = carries-same s (heldIn s m) (heldIn s m) (λ c. refl) (λ c. refl)
-merges-carry s n total b (suc k) (p ∷ ps) m g f =
-    go (bothAlive p (m .alive)) refl (λ e. merges-carry s n total b k ps (mergeOne s p m) (merged-one p b g (f .0 .2) e) (f .1))
-    (merges-carry s n total b (suc k) ps m g (f .1))
+merges-carry s may n total b zero ps m g f = carries-same s (heldIn s m) (heldIn s m) (λ c. refl) (λ c. refl)
+merges-carry s may n total b (suc k) [] m g f = carries-same s (heldIn s m) (heldIn s m) (λ c. refl) (λ c. refl)
+merges-carry s may n total b (suc k) (p ∷ ps) m g f =
+    go (mergeable may p m) refl (λ e. merges-carry s may n total b k ps (mergeOne s p m) (merged-one p b g (f .0 .2) (able-alive may p m e)) (f .1))
+    (merges-carry s may n total b (suc k) ps m g (f .1))
   where
-    go : (l : Bool) → bothAlive p (m .alive) ≡ l
-        → (bothAlive p (m .alive) ≡ true → Carries s (λ c. mergedInto s k ps (mergeOne s p m) c) (heldIn s (mergeOne s p m))
-        (heldIn s (mergeAll s k ps (mergeOne s p m))))
-        → Carries s (λ c. mergedInto s (suc k) ps m c) (heldIn s m) (heldIn s (mergeAll s (suc k) ps m))
-        → Carries s (λ c. elim l as (λ _. ℕ) [ true ↦ mergedInto s k ps (mergeOne s p m) (mergedTo p c) | false ↦ mergedInto s (suc k) ps m c ])
-        (heldIn s m) (heldIn s (elim l as (λ _. Merging) [ true ↦ mergeAll s k ps (mergeOne s p m) | false ↦ mergeAll s (suc k) ps m ]))
+    go : (l : Bool) → mergeable may p m ≡ l
+        → (mergeable may p m ≡ true → Carries s (λ c. mergedInto s may k ps (mergeOne s p m) c) (heldIn s (mergeOne s p m))
+        (heldIn s (mergeAll s may k ps (mergeOne s p m))))
+        → Carries s (λ c. mergedInto s may (suc k) ps m c) (heldIn s m) (heldIn s (mergeAll s may (suc k) ps m))
+        → Carries s (λ c. elim l as (λ _. ℕ) [ true ↦ mergedInto s may k ps (mergeOne s p m) (mergedTo p c) | false ↦ mergedInto s may (suc k) ps m c ])
+        (heldIn s m) (heldIn s (elim l as (λ _. Merging) [ true ↦ mergeAll s may k ps (mergeOne s p m) | false ↦ mergeAll s may (suc k) ps m ]))
     go true e x y =
-        carries-then s (mergedTo p) (λ c. mergedInto s k ps (mergeOne s p m) c) (heldIn s m) (heldIn s (mergeOne s p m))
-        (heldIn s (mergeAll s k ps (mergeOne s p m))) (one-carries p b g (f .0 .2) e) (x e)
+        carries-then s (mergedTo p) (λ c. mergedInto s may k ps (mergeOne s p m) c) (heldIn s m) (heldIn s (mergeOne s p m))
+        (heldIn s (mergeAll s may k ps (mergeOne s p m))) (one-carries p b g (f .0 .2) (able-alive may p m e)) (x e)
     go false e x y = y
 
 -- ---- reinsertion
@@ -213,7 +213,7 @@ module _ {s : Settings} {t : Tree} {R : ℕ → ℕ} {total : ℕ} (g : Settled 
   pub merges-move : Carries s (sentTo s t) (heldBy t) (heldIn s (mergesIn s t))
   merges-move =
       carries-then s (λ c. c) (sentTo s t) (heldBy t) (heldIn s (mergeStart t)) (heldIn s (mergesIn s t)) begin-carries
-      (merges-carry s (length (t .entries)) total (g .exact .small) (length (t .entries) - target (s .«max_leaves»)) (sorted (pairsOf s t)) (mergeStart t)
+      (merges-carry s anyTwo (length (t .entries)) total (g .exact .small) (length (t .entries) - target (s .«max_leaves»)) (sorted (pairsOf s t)) (mergeStart t)
       (begun-merged g n) (every-sorted (FarPair (length (t .entries))) (pairsOf s t) (pairs-far g n)))
 
   pub rebuild-moves : 1 ≤ s .«max_leaves» → s .«max_leaves» < length (t .entries) → Carries s (λ c. rebuiltTo s t c) (heldBy t) (heldBy (rebuilt s t))

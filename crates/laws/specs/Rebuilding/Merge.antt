@@ -10,10 +10,11 @@ use lib.Seq.{getD-set-same, getD-set-other}
 use Rattle.binary64.specs.Whole.{most}
 use Rattle.feature.specs.Summaries.{blank}
 use Rattle.head.specs.declared.Settings.{Settings}
+use Rattle.head.specs.Limits.{both}
 use Rattle.rules.specs.Lists.{countUp, occurs}
 use Rattle.rules.specs.Tree.{merge, Tree, nodeAt, rowsIn}
 use Rattle.rules.specs.declared.Pair.{Pair}
-use Rattle.rules.specs.Rebuild.{Merging, mergeOne, bothAlive, mergeAll}
+use Rattle.rules.specs.Rebuild.{Merging, mergeOne, bothAlive, mergeAll, Guard, mergeable}
 use Rattle.laws.specs.Invariant.Weights.{IsExact, Exactly, exact-count, exact-is, merge-weight}
 use Rattle.counting.specs.Sums.{over, over-same, over-once, over-in, sumTo, sum-change, sum-two}
 use Rattle.counting.specs.Count.{same?}
@@ -244,39 +245,45 @@ abbrev pub Every : (Pair → Type 0) → List Pair → Type 0
 Every P [] = Unit
 Every P (p ∷ ps) = P p × Every P ps
 
--- what one merge keeps, all merges keep
-pub merge-all : (s : Settings) (Q : Merging → Type 0) (P : Pair → Type 0)
+-- what is merged was not merged away
+pub able-alive : (may : Guard) (p : Pair) (m : Merging) → mergeable may p m ≡ true → bothAlive p (m .alive) ≡ true
+unfolding mergeable
+able-alive may p m e = both (may _ _) (bothAlive p (m .alive)) e .1
+
+-- what one merge keeps, all merges keep, whichever may be merged
+pub merge-all : (s : Settings) (may : Guard) (Q : Merging → Type 0) (P : Pair → Type 0)
     → ((p : Pair) (m : Merging) → P p → bothAlive p (m .alive) ≡ true → Q m → Q (mergeOne s p m))
-    → (k : ℕ) (ps : List Pair) (m : Merging) → Every P ps → Q m → Q (mergeAll s k ps m)
+    → (k : ℕ) (ps : List Pair) (m : Merging) → Every P ps → Q m → Q (mergeAll s may k ps m)
 unfolding mergeAll
-merge-all s Q P step zero ps m a q = q
-merge-all s Q P step (suc k) [] m a q = q
-merge-all s Q P step (suc k) (p ∷ ps) m a q =
-    go (bothAlive p (m .alive)) refl (λ e. merge-all s Q P step k ps (mergeOne s p m) (a .1) (step p m (a .0) e q)) (merge-all s Q P step (suc k) ps m (a .1) q)
+merge-all s may Q P step zero ps m a q = q
+merge-all s may Q P step (suc k) [] m a q = q
+merge-all s may Q P step (suc k) (p ∷ ps) m a q =
+    go (mergeable may p m) refl (λ e. merge-all s may Q P step k ps (mergeOne s p m) (a .1) (step p m (a .0) (able-alive may p m e) q))
+    (merge-all s may Q P step (suc k) ps m (a .1) q)
   where
-    go : (b : Bool) → bothAlive p (m .alive) ≡ b → (bothAlive p (m .alive) ≡ true → Q (mergeAll s k ps (mergeOne s p m))) → Q (mergeAll s (suc k) ps m)
-        → Q (elim b [ true ↦ mergeAll s k ps (mergeOne s p m) | false ↦ mergeAll s (suc k) ps m ])
+    go : (b : Bool) → mergeable may p m ≡ b → (mergeable may p m ≡ true → Q (mergeAll s may k ps (mergeOne s p m))) → Q (mergeAll s may (suc k) ps m)
+        → Q (elim b [ true ↦ mergeAll s may k ps (mergeOne s p m) | false ↦ mergeAll s may (suc k) ps m ])
     go true e x y = x e
     go false e x y = y
 
 -- merges only add
-pub merges-grow : (s : Settings) (c k : ℕ) (ps : List Pair) (m : Merging) → c ≤ m .count → c ≤ (mergeAll s k ps m) .count
-merges-grow s c k ps m h = merge-all s (λ m. c ≤ m .count) (λ _. Unit) (λ p m x y z. (unfold mergeOne in (let q = z in omega arith))) k ps m (units ps) h
+pub merges-grow : (s : Settings) (may : Guard) (c k : ℕ) (ps : List Pair) (m : Merging) → c ≤ m .count → c ≤ (mergeAll s may k ps m) .count
+merges-grow s may c k ps m h = merge-all s may (λ m. c ≤ m .count) (λ _. Unit) (λ p m x y z. (unfold mergeOne in (let q = z in omega arith))) k ps m (units ps) h
   where
     units : (ps : List Pair) → Every (λ _. Unit) ps
     units [] = tt
     units (p ∷ ps) = (tt, units ps)
 
--- the first pair lives: one merge at least
-pub merges-some : (s : Settings) (k : ℕ) (p : Pair) (ps : List Pair) (m : Merging) → 1 ≤ k → bothAlive p (m .alive) ≡ true
-    → 1 ≤ (mergeAll s k (p ∷ ps) m) .count
+-- the first pair is merged: one merge at least
+pub merges-some : (s : Settings) (may : Guard) (k : ℕ) (p : Pair) (ps : List Pair) (m : Merging) → 1 ≤ k → mergeable may p m ≡ true
+    → 1 ≤ (mergeAll s may k (p ∷ ps) m) .count
 unfolding mergeAll
-merges-some s zero p ps m h e = absurd (omega arith)
-merges-some s (suc k) p ps m h e = go (bothAlive p (m .alive)) e
+merges-some s may zero p ps m h e = absurd (omega arith)
+merges-some s may (suc k) p ps m h e = go (mergeable may p m) e
   where
     one : 1 ≤ (mergeOne s p m) .count
     one = unfold mergeOne in omega arith
 
-    go : (b : Bool) → b ≡ true → 1 ≤ (elim b as (λ _. Merging) [ true ↦ mergeAll s k ps (mergeOne s p m) | false ↦ mergeAll s (suc k) ps m ]) .count
-    go true q = merges-grow s 1 k ps (mergeOne s p m) one
+    go : (b : Bool) → b ≡ true → 1 ≤ (elim b as (λ _. Merging) [ true ↦ mergeAll s may k ps (mergeOne s p m) | false ↦ mergeAll s may (suc k) ps m ]) .count
+    go true q = merges-grow s may 1 k ps (mergeOne s p m) one
     go false q = absurd (false≢true q)

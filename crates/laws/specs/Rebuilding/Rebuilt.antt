@@ -13,7 +13,7 @@ use Rattle.rules.specs.Lists.{countUp, occurs}
 use Rattle.rules.specs.Tree.{Tree, nodeAt, entryAt, onRunning, withEntries, rowsIn}
 use Rattle.rules.specs.Pairs.{sorted, siblings}
 use Rattle.rules.specs.declared.Pair.{Pair}
-use Rattle.rules.specs.Rebuild.{Merging, mergeAll, bothAlive, dropped, withMerges, target, pairsFrom, pairsOf, noneNear, across, mergeStart, mergesIn, counted, rebuilt, compacted, thinned}
+use Rattle.rules.specs.Rebuild.{Merging, mergeAll, bothAlive, dropped, withMerges, target, pairsFrom, pairsOf, noneNear, across, mergeStart, mergesIn, counted, rebuilt, compacted, thinned, anyTwo, mergeable}
 use Rattle.rules.specs.Reinsert.{reinserted}
 use Rattle.laws.specs.Invariant.Weights.{IsExact}
 use Rattle.counting.specs.Sums.{over, over-same, length-over, sumTo, sum-same, sum-at}
@@ -217,9 +217,9 @@ module _ {s : Settings} {t : Tree} {R : ℕ → ℕ} {total : ℕ} (g : Settled 
 
   -- of any pairs of entries
   pub merges-far : (ps : List Pair) → Every (FarPair (length (t .entries))) ps
-      → Merged s (length (t .entries)) total (mergeAll s wanted (sorted ps) (mergeStart t))
+      → Merged s (length (t .entries)) total (mergeAll s anyTwo wanted (sorted ps) (mergeStart t))
   merges-far ps far =
-      merge-all s (Merged s (length (t .entries)) total) (FarPair (length (t .entries))) (λ p m q l x. merged-one p (g .exact .small) x (q .2) l)
+      merge-all s anyTwo (Merged s (length (t .entries)) total) (FarPair (length (t .entries))) (λ p m q l x. merged-one p (g .exact .small) x (q .2) l)
       wanted (sorted ps) (mergeStart t) (every-sorted (FarPair (length (t .entries))) ps far) begun-merged
 
   pub merges-merged : Merged s (length (t .entries)) total (mergesIn s t)
@@ -227,7 +227,7 @@ module _ {s : Settings} {t : Tree} {R : ℕ → ℕ} {total : ℕ} (g : Settled 
 
   merges-near : across s t ≡ false → Near s t (mergesIn s t)
   merges-near e =
-      merge-all s (λ m. Merged s (length (t .entries)) total m × Near s t m) (NearPair s t) (λ p m q l x. (
+      merge-all s anyTwo (λ m. Merged s (length (t .entries)) total m × Near s t m) (NearPair s t) (λ p m q l x. (
         merged-one p (g .exact .small) (x .0) (q .5) l,
         near-one p (g .exact .small) (x .0) (q .5) l (g .links) (x .1) (q .0) (q .1) (q .2) (q .3) (q .4),
       ))
@@ -240,9 +240,9 @@ module _ {s : Settings} {t : Tree} {R : ℕ → ℕ} {total : ℕ} (g : Settled 
       enough : 1 ≤ length (t .entries) - target (s .«max_leaves»)
       enough = unfold target in omega arith
 
-      first : (qs : List Pair) → length qs ≡ length (pairsOf s t) → Every (FarPair (length (t .entries))) qs → 1 ≤ (mergeAll s wanted qs (mergeStart t)) .count
+      first : (qs : List Pair) → length qs ≡ length (pairsOf s t) → Every (FarPair (length (t .entries))) qs → 1 ≤ (mergeAll s anyTwo wanted qs (mergeStart t)) .count
       first [] e a = let p = pairs-some (omega arith) in absurd (omega arith)
-      first (q ∷ qs) e a = merges-some s wanted q qs (mergeStart t) enough (living-first q (a .0))
+      first (q ∷ qs) e a = merges-some s anyTwo wanted q qs (mergeStart t) enough (unfold mergeable in living-first q (a .0))
 
 -- ---- the rebuild
 

@@ -10,13 +10,13 @@ use Rattle.rules.specs.Pairs.{sorted}
 use Rattle.rules.specs.Tree.{Tree, onRunning}
 use Rattle.rules.specs.Reinsert.{reinserted}
 use Rattle.rules.specs.Refold.{refolded}
-use Rattle.rules.specs.Rebuild.{target, renumber, pairsOf, across, mergeStart, mergesIn, thinned, rebalanced, compacted, counted, rebuilt}
+use Rattle.rules.specs.Rebuild.{anyTwo, target, renumber, pairsOf, across, mergeStart, mergesIn, thinned, rebalanced, compacted, counted, rebuilt}
 use Rattle.counting.specs.Count.{eq-test}
 use Rattle.laws.specs.Demand.{mergedInto, reinsertedTo, rebalancedTo, rebuiltTo}
 
 -- where the merges send entry c, and where the drop sends it then
 abbrev pub sentTo : Settings → Tree → ℕ → ℕ
-sentTo s t c = mergedInto s (length (t .entries) - target (s .«max_leaves»)) (sorted (pairsOf s t)) (mergeStart t) c
+sentTo s t c = mergedInto s anyTwo (length (t .entries) - target (s .«max_leaves»)) (sorted (pairsOf s t)) (mergeStart t) c
 
 abbrev pub thinnedTo : Settings → Tree → ℕ → ℕ
 thinnedTo s t c = renumber (mergesIn s t .alive) (sentTo s t c)

@@ -15,7 +15,7 @@ use Rattle.rules.specs.Tree.{Tree, nodeAt, entryAt, withEntries, withNodes, row
 use Rattle.rules.specs.Rebuild.{renumber, dropped}
 use Rattle.rules.specs.Reinsert.{reinserted}
 use Rattle.rules.specs.Refold.{refolded}
-use Rattle.rules.specs.Refit.{anyHollow, refitRounds, refitted}
+use Rattle.rules.specs.Refit.{anyHollow, refitRounds, refitted, enough}
 use Rattle.counting.specs.Count.{eq-test}
 use Rattle.laws.specs.Invariant.Links.{Links, nil}
 use Rattle.laws.specs.Invariant.Sound.{entryWeight, Caps}
@@ -29,6 +29,7 @@ use Rattle.laws.specs.Refitting.PouredMade.{pour-made}
 use Rattle.laws.specs.Running.{reinserted-running, refolded-entries, refolded-running}
 use Rattle.rules.specs.Route.{Route}
 use Rattle.laws.specs.Refitting.Names.{Names}
+use Rattle.laws.specs.Refitting.Walk.{rounds-walk}
 
 -- ---- the rounds
 
@@ -37,73 +38,59 @@ abbrev pub Ended : Settings → List (List Float) → ℕ → Tree → Tree → 
 Ended s xs top t v a =
     ((R : ℕ → ℕ) × Stale s v R (length xs)) × Owned v a × (length (v .entries) ≤ top) × (v .running ≡ t .running) × AllMade s (map called xs) (entryAt v) a
 
-and-not : (b c : Bool) → (not b && c) ≡ true → b ≡ false
-and-not true c e = absurd (false≢true e)
-and-not false c e = refl
+-- before a round: right links, no more entries; with none to go, what the rounds leave
+abbrev Going : Settings → List (List Float) → ℕ → Tree → ℕ → Tree → List ℕ → Type 0
+Going s xs top t k v a =
+    (R : ℕ → ℕ) × Links s (nodeAt v) (length (v .nodes)) (v .root) (length (v .entries)) R nil nil nil × (length (v .entries) ≤ top) × (v .running ≡ t .running)
+    × (k ≡ 0 → Stale s v R (length xs) × Owned v a × AllMade s (map called xs) (entryAt v) a)
+
+enough-full : (r : ℕ) (u : Tree) → enough r u ≡ true → anyHollow (u .nodes) ≡ false
+unfolding enough
+enough-full r u e = go (anyHollow (u .nodes)) e
+  where
+    go : (b : Bool) → (not b && leb 1 r) ≡ true → b ≡ false
+    go true e = absurd (false≢true e)
+    go false e = refl
 
 -- the rounds end in a tree of right links and entries, and in its account
-pub rounds-whole : (s : Settings) (way : Route) → Names s way → (xs : List (List Float)) (top : ℕ) → Caps s → 0 < length xs → length xs ≤ most → (k r : ℕ) (t : Tree) (R : ℕ → ℕ) (a : List ℕ)
-    → Links s (nodeAt t) (length (t .nodes)) (t .root) (length (t .entries)) R nil nil nil → length (t .entries) ≤ top
-    → (k ≡ 0 → Stale s t R (length xs) × Owned t a × AllMade s (map called xs) (entryAt t) a)
-    → Ended s xs top t (refitRounds s way xs k r t) (refitOwners s way xs k r t a)
-unfolding refitRounds refitOwners
-rounds-whole s way names xs top c pos small zero r t R a g few z = ((R, z refl .0), z refl .1, few, refl, z refl .2)
-rounds-whole s way names xs top c pos small (suc k) r t R a g few z =
-    go (every (λ b. b) (bs names xs small t g)) refl (not (anyHollow ((u names xs small t g) .nodes)) && leb 1 r) refl
-    (λ v b S gs fs zs. rounds-whole s way names xs top c pos small k (suc r) v S b gs fs zs)
+pub rounds-whole : (s : Settings) (way : Route) → Names s way → (xs : List (List Float)) (top : ℕ) → Caps s → 0 < length xs → length xs ≤ most → (k r : ℕ) (t : Tree) (a : List ℕ)
+    → Going s xs top t k t a → Ended s xs top t (refitRounds s way xs k r t) (refitOwners s way xs k r t a)
+rounds-whole s way names xs top c pos small k r t a begin =
+    rounds-walk s way xs (Going s xs top t) (Ended s xs top t)
+    (λ v a (R, _, few, same, z). let (e, o, m) = z refl in ((R, e), o, few, same, m))
+    (λ k v a (R, g, few, same, _) e. (
+      (R, all-stale names xs small v g e),
+      poured-owned names xs small v g,
+      (let n = len-w names xs small v g in omega arith),
+      (unfold withEntries in same),
+      pour-made names xs small v g,
+    ))
+    (λ k r v a (R, g, few, same, _) e f. (
+      (R, drop-stale names xs small v g (enough-full r (u names xs small v g) f)),
+      moved-u names xs small v g .0,
+      (let n = few-u names xs small v g e in omega arith),
+      (unfold dropped withEntries withNodes in same),
+      moved-u names xs small v g .1 (map called xs) (pour-made names xs small v g),
+    ))
+    (λ k v a (R, g, few, same, _) e. again v R g few same e) k r t a begin
   where
-    after : Tree
-    after = reinserted s (u names xs small t g)
-
-    owners : List ℕ
-    owners = map (λ c. reinsertedTo s (u names xs small t g) c) (map (renumber (bs names xs small t g)) (map (way t) xs))
-
-    again : every (λ b. b) (bs names xs small t g) ≡ false
-        → ((v : Tree) (b : List ℕ) (S : ℕ → ℕ) → Links s (nodeAt v) (length (v .nodes)) (v .root) (length (v .entries)) S nil nil nil
-        → length (v .entries) ≤ top → (k ≡ 0 → Stale s v S (length xs) × Owned v b × AllMade s (map called xs) (entryAt v) b)
-        → Ended s xs top v (refitRounds s way xs k (suc r) v) (refitOwners s way xs k (suc r) v b))
-        → Ended s xs top t (refitRounds s way xs k (suc r) after) (refitOwners s way xs k (suc r) after owners)
-    again e ih =
-        let q = again-whole names xs small t g c pos in
-        let x = q .0 in
-        let n = q .1 in
-        let f = few-u names xs small t g e in
-        let i = ih after owners (x .0) (x .1 .links) (omega arith)
-        (λ _. (stale-of s after (x .0) (length xs) (x .1) (x .2), moved-again names xs small t g .0, made)) in
-        (i .0, i .1, i .2, i .3 ∙ same, i .4)
-      where
-        made : AllMade s (map called xs) (entryAt after) owners
-        made = moved-again names xs small t g .1 (map called xs) (moved-u names xs small t g .1 (map called xs) (pour-made names xs small t g))
-
-        same : after .running ≡ t .running
-        same = reinserted-running s (u names xs small t g) ∙ (unfold dropped withEntries withNodes in refl)
-
-    go : (p : Bool) → every (λ b. b) (bs names xs small t g) ≡ p → (q : Bool) → (not (anyHollow ((u names xs small t g) .nodes)) && leb 1 r) ≡ q
-        → ((v : Tree) (b : List ℕ) (S : ℕ → ℕ) → Links s (nodeAt v) (length (v .nodes)) (v .root) (length (v .entries)) S nil nil nil
-        → length (v .entries) ≤ top → (k ≡ 0 → Stale s v S (length xs) × Owned v b × AllMade s (map called xs) (entryAt v) b)
-        → Ended s xs top v (refitRounds s way xs k (suc r) v) (refitOwners s way xs k (suc r) v b))
-        → Ended s xs top t
-        (elim p as (λ _. Tree) [ true ↦ w names xs small t g | false ↦ elim q as (λ _. Tree) [ true ↦ u names xs small t g | false ↦ refitRounds s way xs k (suc r) after ] ])
-        (elim p as (λ _. List ℕ) [
-          | true ↦ map (way t) xs
-          | false ↦ elim q as (λ _. List ℕ) [
-            | true ↦ map (renumber (bs names xs small t g))
-                (map (way t) xs)
-            | false ↦ refitOwners s way xs k (suc r) after owners
-          ]
-        ])
-    go true e q f ih = ((R, all-stale names xs small t g e), poured-owned names xs small t g, lw, (unfold withEntries in refl), pour-made names xs small t g)
-      where
-        lw : length ((w names xs small t g) .entries) ≤ top
-        lw = let a = len-w names xs small t g in omega arith
-    go false e true f ih = (
-      (R, drop-stale names xs small t g (and-not (anyHollow ((u names xs small t g) .nodes)) (leb 1 r) f)),
-      moved-u names xs small t g .0,
-      (let a = few-u names xs small t g e in omega arith),
-      (unfold dropped withEntries withNodes in refl),
-      moved-u names xs small t g .1 (map called xs) (pour-made names xs small t g),
-    )
-    go false e false f ih = again e ih
+    again : {k : ℕ} (v : Tree) (R : ℕ → ℕ) (g : Links s (nodeAt v) (length (v .nodes)) (v .root) (length (v .entries)) R nil nil nil) → length (v .entries) ≤ top
+        → v .running ≡ t .running → every (λ b. b) (bs names xs small v g) ≡ false
+        → Going s xs top t k (reinserted s (u names xs small v g))
+        (map (reinsertedTo s (u names xs small v g)) (map (renumber (bs names xs small v g)) (map (way v) xs)))
+    again v R g few same e =
+        let (x, n) = again-whole names xs small v g c pos in
+        let less = few-u names xs small v g e in (
+          x .0,
+          x .1 .links,
+          omega arith,
+          reinserted-running s (u names xs small v g) ∙ (unfold dropped withEntries withNodes in same),
+          (λ _. (
+            stale-of s (reinserted s (u names xs small v g)) (x .0) (length xs) (x .1) (x .2),
+            moved-again names xs small v g .0,
+            moved-again names xs small v g .1 (map called xs) (moved-u names xs small v g .1 (map called xs) (pour-made names xs small v g)),
+          )),
+        )
 
 -- ---- the refit
 
@@ -127,8 +114,8 @@ refit-whole s way names x xs t old a c w pos small = go (eqb (length (t .entries
 
     end : Ended s (x ∷ xs) (length (t .entries)) t v b
     end =
-        rounds-whole s way names (x ∷ xs) (length (t .entries)) c (omega arith) small (length (t .entries)) 0 t (w .0) a (w .1 .links) (omega arith)
-        (λ z. absurd (omega arith))
+        rounds-whole s way names (x ∷ xs) (length (t .entries)) c (omega arith) small (length (t .entries)) 0 t a
+        (w .0, w .1 .links, omega arith, refl, (λ z. absurd (omega arith)))
 
     same-e : (refolded s v) .entries ≡ v .entries
     same-e = refolded-entries s v
@@ -166,7 +153,7 @@ unfolding refitRounds refitOwners
 fuel-enough s way names xs c pos small zero j r t R a g some-e hk hj = absurd (omega arith)
 fuel-enough s way names xs c pos small (suc k) zero r t R a g some-e hk hj = absurd (omega arith)
 fuel-enough s way names xs c pos small (suc k) (suc j) r t R a g some-e hk hj =
-    go (every (λ b. b) (bs names xs small t g)) refl (not (anyHollow ((u names xs small t g) .nodes)) && leb 1 r) (λ v S b gs p hk hj. fuel-enough s way names xs c pos small k j
+    go (every (λ b. b) (bs names xs small t g)) refl (enough r (u names xs small t g)) (λ v S b gs p hk hj. fuel-enough s way names xs c pos small k j
     (suc r) v S b gs p hk hj)
   where
     after : Tree

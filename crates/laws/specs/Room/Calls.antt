@@ -1,24 +1,23 @@
 -- Room at every moment of every call: each tree that an insert, a batch or a refit of a tree at rest goes through is roomy.
-use Prim.Native.Nat.{ℕ, zero, suc, _+_, _≤_, _<_}
+use Prim.Native.Nat.{ℕ, suc, _+_, _≤_, _<_}
 use mathlib.Core.Path.{_≡_, refl, ap}
 use mathlib.Core.Logic.{inl, inr}
-use mathlib.Core.Bool.{Bool, true, false, not, cond, _&&_}
+use mathlib.Core.Bool.{Bool, true, false, cond}
 use mathlib.Core.List.{List, [], _∷_, _++_, append-nil, map}
 use native.Mathlib.Omega.{arith}
-use lib.Dec.{T, leb, ltb, eqb, ltb→lt}
+use lib.Dec.{T, ltb, eqb, ltb→lt}
 use lib.ListN.{length}
 use lib.Ieee.{Float}
 use Rattle.binary64.specs.Whole.{most}
 use Rattle.head.specs.declared.Settings.{Settings}
 use Rattle.head.specs.Limits.{Sized}
-use Rattle.rules.specs.Lists.{every}
 use Rattle.rules.specs.Tree.{Tree, nodeAt, withEntries}
 use Rattle.rules.specs.Insert.{grown, rowItem}
 use Rattle.rules.specs.Reinsert.{reinserted}
 use Rattle.rules.specs.Refold.{refolded}
 use Rattle.rules.specs.Rebuild.{dropped}
 use Rattle.rules.specs.Rebuild.{rebuilt}
-use Rattle.rules.specs.Refit.{reaccumulated, used, anyHollow, refitRounds, refitted}
+use Rattle.rules.specs.Refit.{reaccumulated, used, refitRounds, refitted}
 use Rattle.counting.specs.Count.{eq-test}
 use Rattle.laws.specs.Invariant.Links.{Links, nil}
 use Rattle.laws.specs.Invariant.Sound.{Caps, caps-of}
@@ -34,6 +33,7 @@ use Rattle.laws.specs.Inserting.Items.{grown-holds, one-more}
 use Rattle.rules.specs.Route.{Route}
 use Rattle.laws.specs.Refitting.Names.{Names}
 use Rattle.rules.specs.Rows.{inserted, insertedAll}
+use Rattle.laws.specs.Refitting.Walk.{rounds-walk}
 
 -- ---- a row, and rows one after the other
 
@@ -100,21 +100,9 @@ pub data Refitting (s : Settings) (way : Route) : List (List Float) → Tree →
 
 -- they end in the rule's tree
 pub rounds-end : (s : Settings) (way : Route) (xs : List (List Float)) (k r : ℕ) (t : Tree) → Rounds s way xs k t (refitRounds s way xs k r t)
-unfolding refitRounds
-rounds-end s way xs zero r t = start
-rounds-end s way xs (suc k) r t =
-    go (every (λ b. b) (map used (reaccumulated s way t xs))) (not (anyHollow (repoured s way xs t .nodes)) && leb 1 r)
-    (rounds-end s way xs k (suc r) (reinserted s (repoured s way xs t)))
-  where
-    go : (a b : Bool) {v : Tree} → Rounds s way xs k (reinserted s (repoured s way xs t)) v
-        → Rounds s way xs (suc k) t (elim a as (λ _. Tree) [
-          | true ↦ withEntries (reaccumulated s way t xs) t
-          | false ↦ elim b as (λ _. Tree)
-              [ true ↦ repoured s way xs t | false ↦ v ]
-        ])
-    go true b w = pouring xs [] (append-nil xs)
-    go false true w = drops
-    go false false w = next w
+rounds-end s way xs k r t =
+    rounds-walk s way xs (λ j u _. (v : Tree) → Rounds s way xs j u v → Rounds s way xs k t v) (λ v _. Rounds s way xs k t v) (λ u a to. to u start)
+    (λ j u a to _. to _ (pouring xs [] (append-nil xs))) (λ j r u a to _ _. to _ drops) (λ j u a to _ v w. to v (next w)) k r t [] (λ _ w. w)
 
 pub refitting-end : (s : Settings) (way : Route) (xs : List (List Float)) (t : Tree) → Refitting s way xs t (refitted s way xs t)
 unfolding refitted

@@ -16,7 +16,7 @@ use Rattle.rules.specs.Pairs.{sorted}
 use Rattle.rules.specs.declared.Pair.{Pair}
 use Rattle.rules.specs.Reinsert.{reinserted}
 use Rattle.rules.specs.Refold.{foldBalanced, refoldOne, preorder, refoldAll, refolded}
-use Rattle.rules.specs.Rebuild.{target, Merging, mergeOne, bothAlive, mergeAll, dropped, withMerges, rebalanced, pairsOf, across, mergeStart, mergesIn, thinned, compacted}
+use Rattle.rules.specs.Rebuild.{target, Merging, mergeOne, mergeAll, dropped, withMerges, rebalanced, pairsOf, across, mergeStart, mergesIn, thinned, compacted, Guard, mergeable, anyTwo}
 use Rattle.rules.specs.Rebuild.{counted, rebuilt}
 use Rattle.counting.specs.Flags.{keep-few}
 use Rattle.counting.specs.Lists.{change-keeps, length-change}
@@ -85,28 +85,28 @@ refolds-roomy {s} {t = t} r (next {n} w) = refolds-roomy (within-roomy (refold-w
 -- ---- a rebuild
 
 -- the pairs ps in order, k merges at most
-pub data Merges (s : Settings) (t : Tree) : ℕ → List Pair → Merging → Tree → Type 0 where
-  start : {k : ℕ} {ps : List Pair} {m : Merging} → Merges s t k ps m (withEntries (m .entries) t)
-  skip : {k : ℕ} {p : Pair} {ps : List Pair} {m : Merging} {u : Tree} → bothAlive p (m .alive) ≡ false → Merges s t k ps m u → Merges s t k (p ∷ ps) m u
-  next : {k : ℕ} {p : Pair} {ps : List Pair} {m : Merging} {u : Tree} → bothAlive p (m .alive) ≡ true → Merges s t k ps (mergeOne s p m) u
-      → Merges s t (suc k) (p ∷ ps) m u
+pub data Merges (s : Settings) (may : Guard) (t : Tree) : ℕ → List Pair → Merging → Tree → Type 0 where
+  start : {k : ℕ} {ps : List Pair} {m : Merging} → Merges s may t k ps m (withEntries (m .entries) t)
+  skip : {k : ℕ} {p : Pair} {ps : List Pair} {m : Merging} {u : Tree} → mergeable may p m ≡ false → Merges s may t k ps m u → Merges s may t k (p ∷ ps) m u
+  next : {k : ℕ} {p : Pair} {ps : List Pair} {m : Merging} {u : Tree} → mergeable may p m ≡ true → Merges s may t k ps (mergeOne s p m) u
+      → Merges s may t (suc k) (p ∷ ps) m u
 
 -- they end in the rule's entries
-pub merges-end : (s : Settings) (t : Tree) (k : ℕ) (ps : List Pair) (m : Merging) → Merges s t k ps m (withEntries (mergeAll s k ps m .entries) t)
+pub merges-end : (s : Settings) (may : Guard) (t : Tree) (k : ℕ) (ps : List Pair) (m : Merging) → Merges s may t k ps m (withEntries (mergeAll s may k ps m .entries) t)
 unfolding mergeAll
-merges-end s t zero ps m = start
-merges-end s t (suc k) [] m = start
-merges-end s t (suc k) (p ∷ ps) m = go (bothAlive p (m .alive)) refl (merges-end s t k ps (mergeOne s p m)) (merges-end s t (suc k) ps m)
+merges-end s may t zero ps m = start
+merges-end s may t (suc k) [] m = start
+merges-end s may t (suc k) (p ∷ ps) m = go (mergeable may p m) refl (merges-end s may t k ps (mergeOne s p m)) (merges-end s may t (suc k) ps m)
   where
-    go : (b : Bool) → bothAlive p (m .alive) ≡ b → Merges s t k ps (mergeOne s p m) (withEntries (mergeAll s k ps (mergeOne s p m) .entries) t)
-        → Merges s t (suc k) ps m (withEntries (mergeAll s (suc k) ps m .entries) t)
-        → Merges s t (suc k) (p ∷ ps) m
-        (withEntries ((elim b as (λ _. Merging) [ true ↦ mergeAll s k ps (mergeOne s p m) | false ↦ mergeAll s (suc k) ps m ]) .entries) t)
+    go : (b : Bool) → mergeable may p m ≡ b → Merges s may t k ps (mergeOne s p m) (withEntries (mergeAll s may k ps (mergeOne s p m) .entries) t)
+        → Merges s may t (suc k) ps m (withEntries (mergeAll s may (suc k) ps m .entries) t)
+        → Merges s may t (suc k) (p ∷ ps) m
+        (withEntries ((elim b as (λ _. Merging) [ true ↦ mergeAll s may k ps (mergeOne s p m) | false ↦ mergeAll s may (suc k) ps m ]) .entries) t)
     go true e x y = next e x
     go false e x y = skip e y
 
-merges-roomy : {s : Settings} {t : Tree} {k : ℕ} {ps : List Pair} {m : Merging} {u : Tree} → Roomy s t → length (m .entries) ≤ length (t .entries)
-    → Merges s t k ps m u → Roomy s u
+merges-roomy : {s : Settings} {may : Guard} {t : Tree} {k : ℕ} {ps : List Pair} {m : Merging} {u : Tree} → Roomy s t → length (m .entries) ≤ length (t .entries)
+    → Merges s may t k ps m u → Roomy s u
 merges-roomy {t = t} {m = m} r h start = within-roomy (entries-within t (m .entries) h) r
 merges-roomy r h (skip e w) = merges-roomy r h w
 merges-roomy {s} {t} {m = m} r h (next {p = p} e w) =
@@ -117,7 +117,7 @@ merges-roomy {s} {t} {m = m} r h (next {p = p} e w) =
 -- the trees before the refold
 pub data Compacting (s : Settings) (t : Tree) : Tree → Type 0 where
   start : Compacting s t t
-  merging : {u : Tree} → Merges s t (length (t .entries) - target (s .«max_leaves»)) (sorted (pairsOf s t)) (mergeStart t) u
+  merging : {u : Tree} → Merges s anyTwo t (length (t .entries) - target (s .«max_leaves»)) (sorted (pairsOf s t)) (mergeStart t) u
       → Compacting s t u
   drops : Compacting s t (thinned t (mergesIn s t))
   reinserting : {u : Tree} → Reinserting s (onRunning (withMerged 0) (thinned t (mergesIn s t))) u → Compacting s t u

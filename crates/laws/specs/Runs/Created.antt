@@ -1,5 +1,5 @@
 -- What a start from creation adds: its buffers hold a fresh tree, which validation accepts, so that every row is a row of a call.
-use Prim.Native.Nat.{ℕ, _<_}
+use Prim.Native.Nat.{ℕ}
 use mathlib.Core.Path.{_≡_, refl, sym, ap, subst, _∙_}
 use mathlib.Core.Logic.{_⊎_, inl, inr}
 use mathlib.Core.Bool.{Bool, true, false, cond}
@@ -19,11 +19,10 @@ use Rattle.head.specs.Heads.{settingsOf}
 use Rattle.head.specs.Sizes.{linksNeeded, floatsNeeded}
 use Rattle.rules.specs.Calls.{Made, createRefusals, lentTree, created, validated, treeRefusals, answerOf}
 use Rattle.rules.specs.Calls.{unless, settingsRefusal, roomRefusal, treeRefusal}
-use Rattle.rules.specs.Reinsert.{collected}
 use Rattle.rules.specs.Tree.{Tree, nodeAt, blankNode, fresh}
 use Rattle.laws.specs.Invariant.Weights.{blank-exact}
 use Rattle.laws.specs.Check.Both.{resting-passes}
-use Rattle.laws.specs.Demand.{Origin, called, originsOf, standing, batchRows, after, effective, rowsRefit, rowsAmong, Binary64}
+use Rattle.laws.specs.Demand.{Origin, called, originsOf, standing, batchRows, after, effective, rowsRefit, rowsAmong, Binary64, NodesExact}
 use Rattle.laws.specs.Demand.{Calls, start, row, batch, refitAll, createAgain, read, FromCreation}
 use Rattle.laws.specs.Runs.Runs.{run-nodes}
 use Rattle.laws.specs.Runs.Serving.{Fresh, created-fresh, sizes-of}
@@ -73,6 +72,11 @@ module _ (h : Head) (fs : List Float) (ls : List ℕ) (e : created h fs ls .answ
       begun : FromNew (m .head) (m .floats) (m .links) (originsOf (held m .entries)) (standing 0 (held m .entries))
       begun = start (subst Binary64 (sym (is-fresh .is)) (fresh-binary64 (is-fresh .threshold))) (fresh-accepted m is-fresh)
 
+-- a fresh tree's one node weighs 0
+fresh-nodes : (h : Float) → NodesExact (fresh h) []
+unfolding fresh nodeAt blankNode rowsAmong
+fresh-nodes h k l = subst (λ j. nodeAt (fresh h) j .summary .weight ≡ whole 0) (let z : 0 ≡ k = omega arith in z) (blank-exact .0)
+
 -- ---- and every row is a row of a call
 
 abbrev Called : List Origin → Type 0
@@ -103,18 +107,6 @@ module _ (h₀ : Head) (fs₀ : List Float) (ls₀ : List ℕ) (e : created h₀
   all-called (createAgain r _ c) = all-called c
   all-called (read q c) = all-called c
 
-  fresh-nodes : (t : Tree) (a : List ℕ) → t ≡ held (m h₀ fs₀ ls₀ e) → a ≡ [] → (k : ℕ) → k < length (t .nodes)
-      → nodeAt t k .summary .weight ≡ whole (rowsAmong (collected t (length (t .nodes)) (k ∷ [])) a)
-  fresh-nodes t a q none k l =
-      subst (λ u. nodeAt t k .summary .weight ≡ whole (rowsAmong (collected t (length (t .nodes)) (k ∷ [])) u)) (sym none)
-      (at t (q ∙ is-fresh h₀ fs₀ ls₀ e .is) l ∙ (unfold rowsAmong in refl))
-    where
-      at : (t : Tree) → t ≡ fresh (is-fresh h₀ fs₀ ls₀ e .threshold) → k < length (t .nodes) → nodeAt t k .summary .weight ≡ whole 0
-      at t q l = subst (λ u. k < length (u .nodes) → nodeAt u k .summary .weight ≡ whole 0) (sym q) root l
-        where
-          root : k < length ((fresh (is-fresh h₀ fs₀ ls₀ e .threshold)) .nodes) → nodeAt (fresh (is-fresh h₀ fs₀ ls₀ e .threshold)) k .summary .weight ≡ whole 0
-          root l = unfold fresh nodeAt blankNode in subst (λ j. nodeAt (fresh (is-fresh h₀ fs₀ ls₀ e .threshold)) j .summary .weight ≡ whole 0) (let z : 0 ≡ k = omega arith in z) (blank-exact .0)
-
   -- the promise as it is after creation
   pub created-keeps : {h : Head} {fs : List Float} {ls : List ℕ} {ys : List Origin} {a : List ℕ} → FromNew h₀ fs₀ ls₀ e h fs ls ys a
       → FromCreation (lentTree h fs ls) ys a
@@ -123,10 +115,10 @@ module _ (h₀ : Head) (fs₀ : List Float) (ls₀ : List ℕ) (e : created h₀
       let p = calls-public c in
       record { rows = rows; called-all = are; nodes = by (run-nodes (sizes-of (p .serving)) (p .run)) }
     where
-      by : ((k : ℕ) → k < length (lentTree h fs ls .nodes)
-          → nodeAt (lentTree h fs ls) k .summary .weight ≡ whole (rowsAmong (collected (lentTree h fs ls) (length (lentTree h fs ls .nodes)) (k ∷ [])) a))
-          ⊎ ((lentTree h fs ls ≡ held (m h₀ fs₀ ls₀ e)) × (a ≡ []))
-          → (k : ℕ) → k < length (lentTree h fs ls .nodes)
-          → nodeAt (lentTree h fs ls) k .summary .weight ≡ whole (rowsAmong (collected (lentTree h fs ls) (length (lentTree h fs ls .nodes)) (k ∷ [])) a)
+      f : Fresh (m h₀ fs₀ ls₀ e)
+      f = is-fresh h₀ fs₀ ls₀ e
+
+      by : NodesExact (lentTree h fs ls) a ⊎ ((lentTree h fs ls ≡ held (m h₀ fs₀ ls₀ e)) × (a ≡ [])) → NodesExact (lentTree h fs ls) a
       by (inl exact) = exact
-      by (inr (same, none)) = fresh-nodes (lentTree h fs ls) a same none
+      by (inr (same, none)) =
+          subst (λ t. NodesExact t a) (sym (same ∙ f .is)) (subst (λ b. NodesExact (fresh (f .threshold)) b) (sym none) (fresh-nodes (f .threshold)))

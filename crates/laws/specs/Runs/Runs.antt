@@ -7,13 +7,13 @@ use mathlib.Core.List.{List, [], _∷_, _++_, map}
 use native.Mathlib.Omega.{arith}
 use lib.ListN.{length, length-append, length-map}
 use lib.Ieee.{Float}
-use Rattle.binary64.specs.Whole.{most, whole}
+use Rattle.binary64.specs.Whole.{most}
 use Rattle.feature.specs.Summaries.{blank}
 use Rattle.head.specs.declared.Settings.{Settings}
 use Rattle.head.specs.Limits.{Sized}
 use Rattle.rules.specs.Lists.{occurs}
 use Rattle.rules.specs.CheckLaws.{passes-total}
-use Rattle.rules.specs.Tree.{Tree, entryAt, nodeAt}
+use Rattle.rules.specs.Tree.{Tree, entryAt}
 use Rattle.rules.specs.Refit.{refitted}
 use Rattle.rules.specs.Check.{totalOf, leafLists, checked}
 use Rattle.counting.specs.Count.{below, below-in, below-out}
@@ -22,7 +22,7 @@ use Rattle.laws.specs.Inserting.First.{Holding}
 use Rattle.laws.specs.Check.Passing.{entries-sum}
 use Rattle.laws.specs.Check.Accept.{once-back}
 use Rattle.laws.specs.Check.Both.{AtRest, none-total, resting-passes, passing-linked}
-use Rattle.laws.specs.Demand.{Origin, called, originsOf, standing, ownersAll, ownersRefit, effective, rowsRefit, rowsAmong, Binary64, Promise}
+use Rattle.laws.specs.Demand.{Origin, called, originsOf, standing, ownersAll, ownersRefit, effective, rowsRefit, Binary64, Promise, NodesExact}
 use Rattle.laws.specs.Ownership.Made.{AllMade}
 use Rattle.laws.specs.Ownership.RowsMade.{owner-of}
 use Rattle.laws.specs.Ownership.Account.{owned-sum, nodes-exact, holding-account}
@@ -34,7 +34,6 @@ use Rattle.rules.specs.Route.{Route}
 use Rattle.laws.specs.Refitting.Names.{Names}
 use Rattle.rules.specs.Rows.{insertedAll}
 use Rattle.rules.specs.declared.Verdict.the-variants.{Passes}
-use Rattle.rules.specs.Reinsert.{collected}
 
 -- a run from a tree t₀ that passes the check: the tree that it leaves, the rows since the last effective refit with that refit's own,
 -- or since the start with those behind the entries of t₀, and whose each of these rows is.
@@ -155,11 +154,11 @@ run-keeps {s} z {t₀} {t} {ys} {a} r =
 
 -- with entries each node's weight is its count to the bit; without, it is what the lent tree has
 pub run-nodes : {s : Settings} → Sized s → {t₀ t : Tree} {ys : List Origin} {a : List ℕ} → Run s t₀ t ys a
-    → ((k : ℕ) → k < length (t .nodes) → nodeAt t k .summary .weight ≡ whole (rowsAmong (collected t (length (t .nodes)) (k ∷ [])) a)) ⊎ ((t ≡ t₀) × (a ≡ []))
+    → NodesExact t a ⊎ ((t ≡ t₀) × (a ≡ []))
 run-nodes {s} z {t₀} {t} {ys} {a} r = let o = run-owning z r in go o (o .rests .holds)
   where
     go : Owning s t (length ys) a → Holding s t (length ys)
-        → ((k : ℕ) → k < length (t .nodes) → nodeAt t k .summary .weight ≡ whole (rowsAmong (collected t (length (t .nodes)) (k ∷ [])) a)) ⊎ ((t ≡ t₀) × (a ≡ []))
+        → NodesExact t a ⊎ ((t ≡ t₀) × (a ≡ []))
     go o (inl b) = inr (run-empty z r (ap (λ u. length (u .entries)) (b .0 .is)), none a (owned-length o ∙ b .1))
       where
         none : (c : List ℕ) → length c ≡ 0 → c ≡ []

@@ -23,7 +23,8 @@ use Rattle.rules.specs.Rebuild.{Merging, renumber, dropped, withMerges, rebalan
 use Rattle.rules.specs.Refit.{refitted}
 use Rattle.rules.specs.Check.{linked}
 use Rattle.rules.specs.Computes.{computes}
-use Rattle.laws.specs.Demand.{called, originsOf, standing, originAt, takerOf, taker, mergedTo, reinsertedTo, rebalancedTo, ownersIn, ownersAll, refitOwners, ownersRefit, wayUp, pathUp}
+use Rattle.promises.specs.Demand.{called, originsOf, standing, originAt, takerOf, taker, ownersIn, ownersAll, ownersRefit, wayUp, pathUp}
+use Rattle.laws.specs.Moves.{mergedTo, reinsertedTo, rebalancedTo, refitOwners}
 use Rattle.bites.specs.Told.{told}
 use Rattle.bites.specs.Formed.{alone, formed}
 use Rattle.bites.specs.Spared.{sameNumbers, kept, spared}

@@ -3,12 +3,11 @@ use Prim.Native.Nat.{ℕ, zero, suc, _+_, _≤_, _<_}
 use mathlib.Core.Path.{_≡_, refl, sym, ap, _∙_}
 use mathlib.Core.Logic.{_⊎_, inl, inr, _≢_}
 use mathlib.Core.Bool.{Bool, true, false, cond}
-use mathlib.Core.List.{List, [], _∷_, map}
+use mathlib.Core.List.{List, [], _∷_}
 use native.Mathlib.Nat.{not-suc-le-zero, le-of-suc-le-suc}
 use native.Mathlib.Omega.{arith}
 use lib.Dec.{eqb}
 use lib.ListN.{length, getD}
-use lib.Ieee.{Float}
 use Rattle.feature.specs.Summaries.{blank}
 use Rattle.feature.specs.Weights.{blank-weight, pushed-weight, merged-none, merged-copy, zero-low}
 use Rattle.head.specs.declared.Settings.{Settings}
@@ -17,8 +16,8 @@ use Rattle.rules.specs.Tree.{Tree, push, merge, entryAt, rowsIn}
 use Rattle.rules.specs.Histories.{summarySeen}
 use Rattle.counting.specs.Count.{is, is-same, is-other, is-eq, same?, lt?, eq-test, is-le}
 use Rattle.counting.specs.Sums.{occurs-cons, occurs-here}
-use Rattle.laws.specs.Demand.{Origin, called, originAt, owns, Made, empty, taking, lent, joining, alike, behind}
-use Rattle.laws.specs.Ownership.Made.{AllMade, owns-none}
+use Rattle.promises.specs.Demand.{Origin, called, originAt, owns, Made, empty, taking, lent, joining, alike, behind}
+use Rattle.promises.specs.Ownership.Made.{AllMade, owns-none}
 use Rattle.bites.specs.Spared.{sameNumbers, numbers-same, every-below}
 use Rattle.counting.specs.Places.{get-occurs}
 use Rattle.feature.specs.declared.Summary.{Summary}

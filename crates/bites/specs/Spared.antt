@@ -12,7 +12,7 @@ use Rattle.head.specs.declared.Settings.{Settings}
 use Rattle.rules.specs.Lists.{every, upFrom, occurs}
 use Rattle.rules.specs.Tree.{Node, Tree, nodeAt, distTo}
 use Rattle.rules.specs.Histories.{summarySeen}
-use Rattle.laws.specs.Demand.{pathUp, Same, OnPath, RowLocal}
+use Rattle.promises.specs.Demand.{pathUp, Same, OnPath, RowLocal}
 use Rattle.rules.specs.Descent.{leafFor}
 
 unfoldable pub sameNumbers : List ℕ → List ℕ → Bool

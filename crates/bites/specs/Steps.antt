@@ -21,7 +21,8 @@ use Rattle.rules.specs.Refold.{refolded}
 use Rattle.rules.specs.Rebuild.{Merging, mergeOne, counted, rebuilt}
 use Rattle.rules.specs.Check.{checked}
 use Rattle.counting.specs.Places.{placeIn}
-use Rattle.laws.specs.Demand.{standing, taker, rebalancedTo, ownersIn, ownersRefit}
+use Rattle.promises.specs.Demand.{standing, taker, ownersIn, ownersRefit}
+use Rattle.laws.specs.Moves.{rebalancedTo}
 use Rattle.rules.specs.Route.{greedy}
 use Rattle.rules.specs.Rows.{inserted, insertedAll}
 

@@ -10,8 +10,7 @@ use Rattle.rules.specs.Lists.{every, upFrom, occurs}
 use Rattle.rules.specs.Tree.{Tree, entryAt, rowsIn}
 use Rattle.rules.specs.Check.{totalOf}
 use Rattle.laws.specs.Invariant.Sound.{entryWeight}
-use Rattle.laws.specs.Ownership.Owned.{Owned}
-use Rattle.laws.specs.Ownership.Account.{owned-sum}
+use Rattle.laws.specs.Invariant.Owned.{Owned, owned-sum}
 use Rattle.laws.specs.Check.Passing.{entries-sum}
 use Rattle.feature.specs.Summaries.{blank}
 

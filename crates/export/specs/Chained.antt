@@ -1,16 +1,19 @@
--- What C and Rust chain: each exported call, given the head that the last one gave back, is a call of demand 3 (laws, Demand).
+-- What C and Rust chain: each exported call, given the head that the last one gave back, is a call of demand 3 (promises, Demand).
 use Prim.Native.Nat.{ℕ}
 use mathlib.Core.Path.{_≡_, refl, sym, ap, subst, _∙_}
 use mathlib.Core.List.{List, [], _∷_, _++_, map}
 use lib.Ieee.{Float}
 use Rattle.head.specs.Heads.{settingsOf}
 use Rattle.rules.specs.Calls.{Lent, Left, lentTree, created, rowInserted, batchInserted, batchRefitted, validated}
-use Rattle.laws.specs.Demand.{Origin, called, originsOf, standing, batchRows, rowsRefit, after, ownersIn, ownersAll, ownersRefit, Binary64, Calls, start, row, batch, refitAll}
-use Rattle.laws.specs.Runs.Created.{created-starts}
+use Rattle.promises.specs.Demand.{Origin, called, originsOf, standing, batchRows, rowsRefit, after, ownersIn, ownersAll, ownersRefit, Calls, start, row, batch, refitAll}
+use Rattle.rules.specs.Check.{Binary64}
+use Rattle.promises.specs.Runs.Created.{created-starts}
 use Rattle.boundary.specs.declared.HeadNumbers.{HeadNumbers}
-use Rattle.boundary.specs.Numbers.{headOf, headNumbers, zero-accepts}
+use Rattle.boundary.specs.Numbers.{headOf, headNumbers, zero-accepts, answerNumbers}
 use Rattle.export.specs.Given.{LeftNumbers, leftNumbers, MadeNumbers, madeNumbers}
 use Rattle.rules.specs.Route.{greedy}
+use Rattle.boundary.specs.declared.AnswerNumbers.{AnswerNumbers}
+use Rattle.head.specs.declared.Head.{Head}
 
 -- the calls so far on a lent tree, by the numbers that the last one gave back
 abbrev pub Chain : Head → List Float → List ℕ → HeadNumbers → List Float → List ℕ → List Origin → List ℕ → Type 0

@@ -16,7 +16,7 @@ use Rattle.rules.specs.Rebuild.{rebuilt}
 use Rattle.laws.specs.Running.{grown-running, Below}
 use Rattle.laws.specs.Invariant.Sound.{caps-of}
 use Rattle.laws.specs.Check.Both.{AtRest}
-use Rattle.laws.specs.Runs.Calls.{row-rests}
+use Rattle.laws.specs.Resting.Rests.{row-rests}
 use Rattle.grow.specs.Room.{Growable, rest-growable}
 use Rattle.rebuild.specs.Rebuilding.{Rebuildable}
 use Rattle.laws.specs.Inserting.Items.{one-more, grown-holds}

@@ -7,3 +7,4 @@ pub mod Sound
 pub mod Beneath
 pub mod Collected
 pub mod Same
+pub mod Owned

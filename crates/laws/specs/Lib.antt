@@ -1,5 +1,5 @@
--- Demand 3 over the rules: `Demand` states it, the rest proves it.
-pub mod Demand
+-- The invariant over the rules: every step keeps it, a tree passes the check where it holds, and N nodes suffice.
+pub mod Moves
 pub mod Running
 pub mod Summaries
 pub mod Shapes
@@ -9,8 +9,6 @@ pub mod Inserting
 pub mod Rebuilding
 pub mod Room
 pub mod Check
-pub mod Ownership
 pub mod Refitting
-pub mod Locality
-pub mod Runs
+pub mod Resting
 pub mod ForCode

@@ -1,7 +1,5 @@
--- A refit keeps the invariant and begins the account anew.
+-- A refit keeps the invariant.
 pub mod Names
 pub mod Walk
-pub mod Poured
 pub mod Round
-pub mod PouredMade
 pub mod Refitted

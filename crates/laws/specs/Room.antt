@@ -1,6 +1,3 @@
--- N nodes and M + 1 entries suffice at every moment.
+-- N nodes and M + 1 entries suffice.
 pub mod Nodes
 pub mod Kept
-pub mod Moments
-pub mod Rebuilds
-pub mod Calls

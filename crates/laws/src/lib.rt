@@ -1,1 +1,1 @@
-// Demand 3 over the rules: theorems only, no code.
+// The invariant over the rules, and what code leans on: theorems only, no code.

@@ -22,9 +22,9 @@ use Rattle.rules.specs.Cleared.{changed-tree}
 use Rattle.rules.specs.Calls.{Made, changed, unless, settingsRefusal, roomRefusal, createRefusals, lentTree, madeBy, created}
 use Rattle.rules.specs.Listing.{andThen, badLine, taken, headFrom, firstLine, rowsListed, linesListed}
 use Rattle.laws.specs.Shapes.{fresh-shaped}
-use Rattle.laws.specs.Runs.Calls.{fresh-rests}
-use Rattle.laws.specs.Runs.Fitting.{resting-fits}
-use Rattle.laws.specs.Runs.Serving.{Serving, created-fresh}
+use Rattle.laws.specs.Resting.Rests.{fresh-rests}
+use Rattle.laws.specs.Resting.Fitting.{resting-fits}
+use Rattle.laws.specs.Resting.Serving.{Serving, created-fresh}
 use Rattle.reasons.specs.declared.Reason.{Reason}
 use Rattle.lines.specs.declared.Run.{Run}
 use Rattle.lines.specs.declared.Stage.the-variants as Stages

@@ -23,15 +23,13 @@ use Rattle.rules.specs.Listing.{badLine, rowIn, lineIn, rowsListed}
 use Rattle.rules.specs.declared.Verdict.the-variants.{Passes}
 use Rattle.head.specs.declared.refusal.Refusal.the-variants.{Full}
 use Rattle.rules.specs.Lists.{rowsOf}
-use Rattle.laws.specs.Runs.Runs as Past
 use Rattle.work.specs.declared.Work.the-variants.{Insert}
 use Rattle.work.specs.Worked.{worked, Workable, one-row}
 use Rattle.laws.specs.Shapes.{ShapedTree, batch-shaped}
 use Rattle.laws.specs.Check.Both.{AtRest, resting-passes}
-use Rattle.laws.specs.Runs.Calls.{row-rests}
-use Rattle.laws.specs.Runs.Threshold.{inserted-fine}
-use Rattle.laws.specs.Runs.Runs.{rest-total}
-use Rattle.laws.specs.Runs.Serving.{Serving, sizes-of, left-tree, serving-next}
+use Rattle.laws.specs.Resting.Rests.{row-rests, rest-total}
+use Rattle.laws.specs.Resting.Threshold.{inserted-fine}
+use Rattle.laws.specs.Resting.Serving.{Serving, sizes-of, left-tree, serving-next}
 use Rattle.text.specs.declared.RowLine.{RowLine}
 use Rattle.text.specs.declared.RowLine.the-variants.{Row, Malformed}
 use Rattle.text.specs.Rows.{RowRead, floatsIn, row-listed, malformed-listed}

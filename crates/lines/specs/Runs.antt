@@ -14,7 +14,7 @@ use Rattle.head.specs.Heads.{settingsOf}
 use Rattle.rules.specs.Tree.{Tree}
 use Rattle.rules.specs.Calls.{lentTree}
 use Rattle.rules.specs.Listing.{cut, linesOf, badLine, rowsListed, linesListed, rowlist}
-use Rattle.laws.specs.Runs.Serving.{Serving}
+use Rattle.laws.specs.Resting.Serving.{Serving}
 use Rattle.reasons.specs.declared.Reason.{Reason}
 use Rattle.lines.specs.declared.Stage.{Stage}
 use Rattle.lines.specs.declared.Stage.the-variants as Stages

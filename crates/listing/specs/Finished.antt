@@ -17,7 +17,7 @@ use Rattle.rules.specs.Listing.{badLine, report, rowsListed, linesListed}
 use Rattle.arena.specs.Trees.{count-entries}
 use Rattle.validate.specs.Passing.{passing-floats, passing-counts}
 use Rattle.reports.specs.Entries.{Reportable}
-use Rattle.laws.specs.Runs.Serving.{sizes-of}
+use Rattle.laws.specs.Resting.Serving.{sizes-of}
 use Rattle.reasons.specs.declared.Reason.{Reason}
 use Rattle.lines.specs.declared.Stage.{Stage}
 use Rattle.lines.specs.declared.Stage.the-variants as Stages

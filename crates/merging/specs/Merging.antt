@@ -18,7 +18,7 @@ use Rattle.rules.specs.declared.Pair.{Pair}
 use Rattle.rules.specs.Lists.{changeAt}
 use Rattle.rules.specs.ListLaws.{table-at}
 use Rattle.rules.specs.Tree.{Tree, merge, absBetween, entryAt, withEntries, onRunning}
-use Rattle.rules.specs.Rebuild.{Merging, widened, mergeOne, bothAlive, mergeAll, withMerges, mergesOn}
+use Rattle.rules.specs.Rebuild.{Merging, widened, mergeOne, bothAlive, mergeAll, withMerges, mergesOn, anyTwo, mergeable}
 use Rattle.rules.specs.Slices.{treeOf}
 use Rattle.laws.specs.Rebuilding.Merge.{Every}
 use Rattle.arena.specs.Trees.{AnyLinks, FloatsTo, onEntry, count-entries}

@@ -15,7 +15,7 @@ use Rattle.rules.specs.declared.Pair.{Pair}
 use Rattle.rules.specs.Tree.{Tree, withEntries}
 use Rattle.rules.specs.Slices.{treeOf}
 use Rattle.rules.specs.Pairs.{sorted}
-use Rattle.rules.specs.Rebuild.{Merging, target, mergeOne, bothAlive, mergeAll, dropped, withMerges, thinned, rebalanced, mergeStart}
+use Rattle.rules.specs.Rebuild.{Merging, target, mergeOne, bothAlive, mergeAll, dropped, withMerges, thinned, rebalanced, mergeStart, anyTwo, mergeable}
 use Rattle.laws.specs.Rebuilding.Merge.{Every}
 use Rattle.laws.specs.Rebuilding.Pairs.{every-sorted}
 use Rattle.laws.specs.Rebuilding.Cousins.{FarPair}

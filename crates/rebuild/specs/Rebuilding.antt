@@ -17,7 +17,7 @@ use Rattle.rules.specs.Tree.{Tree, onRunning}
 use Rattle.rules.specs.Slices.{treeOf}
 use Rattle.rules.specs.Pairs.{siblings, cousins, sorted}
 use Rattle.rules.specs.Refold.{refolded}
-use Rattle.rules.specs.Rebuild.{Merging, target, mergeAll, dropped, mergeStart, thinned, pairsFrom, noneNear, across, compacted, counted, rebuilt}
+use Rattle.rules.specs.Rebuild.{Merging, target, mergeAll, dropped, mergeStart, thinned, pairsFrom, noneNear, across, compacted, counted, rebuilt, anyTwo}
 use Rattle.laws.specs.Invariant.Sound.{Settled, caps-of}
 use Rattle.laws.specs.Inserting.Grown.{Whole}
 use Rattle.laws.specs.Rebuilding.Merge.{Every, Merged}

@@ -46,9 +46,9 @@ module _ (s : Settings) (count : ℕ) (xs : List Float) (t : Tree) where
       let some = p .some in
       let most = p .few in
       let end =
-      rounds-whole s (greedy s) (greedy-names s) (rowsOf count (s .dim) xs) top (caps-of z) (omega arith) (omega arith) top 0 t (p .tree .whole .0) [] (p .tree .whole .1 .links)
-      (omega arith) (λ z. absurd (omega arith)) in
-      let fewer = end .2 in
+      rounds-whole s (greedy s) (greedy-names s) (rowsOf count (s .dim) xs) top (caps-of z) (omega arith) (omega arith) top 0 t
+      (p .tree .whole .0, p .tree .whole .1 .links, omega arith, refl, (λ z. absurd (omega arith))) in
+      let fewer = end .1 in
       rw e (linked-standing s _ (end .0 .0) (end .0 .1 .links) (omega arith), λ i l. end .0 .1 .links .filled i l)
 
   pub refit-bare : length (t .entries) ≡ 0 → t ≡ refitted s (greedy s) (rowsOf count (s .dim) xs) t

@@ -1,11 +1,11 @@
 -- The tree check: eight conditions, and the lowest that fails.
-use Prim.Native.Nat.{ℕ, zero, suc, _+_}
+use Prim.Native.Nat.{ℕ, zero, suc, _+_, _<_}
 use mathlib.Core.Bool.{Bool, true, false, cond, _||_, _&&_, not}
 use mathlib.Core.List.{List, [], _∷_, _++_, map}
 use mathlib.Core.Option.{Option, none, some}
 use lib.ListN.{length}
 use lib.Dec.{T, leb, ltb, eqb}
-use lib.Ieee.{eq}
+use lib.Ieee.{eq, binary64, fits}
 use Rattle.binary64.specs.Whole.{whole, most}
 use Rattle.binary64.specs.Counts.{isCount}
 use Rattle.feature.specs.declared.Summary.{Summary}
@@ -108,6 +108,11 @@ weighed t = every (λ e. isCount (e .weight)) (t .entries) && leb (totalOf (t .e
 -- 8. The merged total is below M.
 unfoldable pub mergedBelow : Settings → Running → Bool
 mergedBelow s r = ltb (r .merged) (s .«max_leaves»)
+
+-- A lent tree's weights are floats of binary64, as every number of a lent slice is.
+pub record Binary64 (t : Tree) : Type 0 where
+  pub nodes-fit : (k : ℕ) → k < length (t .nodes) → T (fits binary64 (nodeAt t k .summary .weight))
+  pub entries-fit : (c : ℕ) → c < length (t .entries) → T (fits binary64 (entryAt t c .weight))
 
 -- ---- the lowest failing condition
 

@@ -12,8 +12,7 @@ use Rattle.rules.specs.declared.Verdict.{Verdict}
 use Rattle.rules.specs.declared.Verdict.the-variants.{Fails}
 use Rattle.rules.specs.Lists.{every}
 use Rattle.rules.specs.Tree.{Tree}
-use Rattle.rules.specs.Check.{sized, rooted, listFits, linked, onceEach, leafLists, filled, level, weighed, mergedBelow, lowest, conditions, checked}
-use Rattle.laws.specs.Demand.{Binary64}
+use Rattle.rules.specs.Check.{sized, rooted, listFits, linked, onceEach, leafLists, filled, level, weighed, mergedBelow, lowest, conditions, checked, Binary64}
 use Rattle.validate.specs.Climbing.{meeting}
 use Rattle.validate.specs.Meeting.{meeting-is}
 use Rattle.validate.specs.Linked.{linked-is}

@@ -14,11 +14,10 @@ use Rattle.head.specs.declared.Counters.{Counters}
 use Rattle.head.specs.Limits.{Sized}
 use Rattle.head.specs.Sizes.{nodeCap, entryCap, slotWidth, floatsNeeded, linksNeeded}
 use Rattle.rules.specs.Tree.{nodeAt}
-use Rattle.rules.specs.Check.{sized, orphan, rooted}
+use Rattle.rules.specs.Check.{sized, orphan, rooted, Binary64}
 use Rattle.rules.specs.Slices.{stretch, summaryIn, slotAt, treeOf}
 use Rattle.arena.specs.Numbered.{summaryAt}
 use Rattle.arena.specs.Trees.{Floats, Links, summary-at, entry-at, count-nodes, count-entries}
-use Rattle.laws.specs.Demand.{Binary64}
 use Rattle.lists.specs.Lent.{holds}
 
 module _ (s : Settings) (n : Counters) (fs : List Float) (ls : List ℕ) where

@@ -19,7 +19,7 @@ use Rattle.feature.specs.Summaries.{blank}
 use Rattle.head.specs.declared.Settings.{Settings}
 use Rattle.rules.specs.Lists.{every, upFrom}
 use Rattle.rules.specs.Tree.{Tree, nodeAt, entryAt, blankNode, child, rowsIn}
-use Rattle.rules.specs.Check.{rooted, listFits, linked, loneRoot, filled, level, totalOf, weighs, weighed}
+use Rattle.rules.specs.Check.{rooted, listFits, linked, loneRoot, filled, level, totalOf, weighs, weighed, Binary64}
 use Rattle.rules.specs.Reinsert.{collected}
 use Rattle.counting.specs.Count.{same?}
 use Rattle.counting.specs.Sums.{over, sumTo}
@@ -31,7 +31,6 @@ use Rattle.laws.specs.Check.Accept.{ranks, accepted-links}
 use Rattle.laws.specs.Check.Passing.{every-up, every-list, entries-sum, weighed-holds}
 use Rattle.laws.specs.Check.Beneath.{rows-le, rows-root, weigh-beneath}
 use Rattle.laws.specs.Check.Taken.{node-some, taken}
-use Rattle.laws.specs.Demand.{Binary64}
 use Rattle.laws.specs.Check.Empty.{one-node, root-zero}
 use Rattle.weights.specs.Adding.{rowsListed, addsUp, nodesAddUp, weighsNothing, summed}
 use Rattle.counting.specs.Tests.{every-at, up-at}

@@ -12,10 +12,9 @@ use Rattle.feature.specs.declared.Summary.{Summary}
 use Rattle.head.specs.declared.Settings.{Settings}
 use Rattle.rules.specs.declared.Verdict.the-variants.{Passes}
 use Rattle.rules.specs.Lists.{every, joined, upFrom}
-use Rattle.rules.specs.Check.{linked, onceEach, levels, ownList, leafLists, checked, totalOf}
+use Rattle.rules.specs.Check.{linked, onceEach, levels, ownList, leafLists, checked, totalOf, Binary64}
 use Rattle.rules.specs.Tree.{Tree}
 use Rattle.laws.specs.Check.Taken.{checked-whole}
-use Rattle.laws.specs.Demand.{Binary64}
 use Rattle.counting.specs.Count.{same?}
 use Rattle.laws.specs.Inserting.First.{Holding}
 use Rattle.laws.specs.Check.Passing.{whole-passes}

@@ -17,13 +17,12 @@ use Rattle.head.specs.Sizes.{nodeCap}
 use Rattle.rules.specs.declared.Verdict.the-variants.{Passes}
 use Rattle.rules.specs.Lists.{upFrom, every, occurs, joined}
 use Rattle.rules.specs.Tree.{Node, Tree, nodeAt, cap}
-use Rattle.rules.specs.Check.{onceEach, orphan, sized, rooted, listFits, nextLevel, levelsFrom, levels, ownList, leafLists, linked, filled, loneRoot, level}
+use Rattle.rules.specs.Check.{onceEach, orphan, sized, rooted, listFits, nextLevel, levelsFrom, levels, ownList, leafLists, linked, filled, loneRoot, level, Binary64}
 use Rattle.rules.specs.Check.{sameKind, growing, totalOf, weighs, weighed, lowest, conditions, checked, mergedBelow, known}
 use Rattle.rules.specs.Reinsert.{collected}
 use Rattle.laws.specs.Invariant.Height.{leaves-few, levels-some}
 use Rattle.laws.specs.Inserting.First.{emptyTree, Zero, Bare, zero-eq}
 use Rattle.laws.specs.Check.Accept.{ranks, accepted-links}
-use Rattle.laws.specs.Demand.{Binary64}
 use lib.Ieee.Bits.{is-true}
 use Rattle.head.specs.declared.Running.{Running}
 use Rattle.laws.specs.Running.{Below}

@@ -21,7 +21,7 @@ use Rattle.rules.specs.declared.Verdict.the-variants.{Passes}
 use Rattle.rules.specs.Lists.{upFrom, every}
 use Rattle.rules.specs.Tree.{Tree, nodeAt, entryAt, rowsIn}
 use Rattle.rules.specs.Reinsert.{collected}
-use Rattle.rules.specs.Check.{sized, loneRoot, totalOf, weighs, weighed, checked, mergedBelow}
+use Rattle.rules.specs.Check.{sized, loneRoot, totalOf, weighs, weighed, checked, mergedBelow, Binary64}
 use Rattle.laws.specs.Invariant.Weights.{exact-count, exact-is, IsExact}
 use Rattle.counting.specs.Sums.{over-same, sumTo}
 use Rattle.laws.specs.Invariant.Links.{Links, nil, leaf?}
@@ -35,7 +35,6 @@ use Rattle.laws.specs.Check.Accept.{ranks, accepted-links}
 use Rattle.counting.specs.Tests.{every-at, up-at}
 use Rattle.rules.specs.CheckLaws.{passing-of}
 use Rattle.laws.specs.Running.{Below}
-use Rattle.laws.specs.Demand.{Binary64}
 
 module _ {s : Settings} {t : Tree} {R : ℕ → ℕ} (g : Links s (nodeAt t) (length (t .nodes)) (t .root) (length (t .entries)) R nil nil nil) (lent : Binary64 t)
     (h7 : T (weighed t)) where

@@ -12,7 +12,7 @@ use Rattle.rules.specs.Reinsert.{reinserted}
 use Rattle.rules.specs.Refold.{refolded}
 use Rattle.rules.specs.Rebuild.{anyTwo, target, renumber, pairsOf, across, mergeStart, mergesIn, thinned, rebalanced, compacted, counted, rebuilt}
 use Rattle.counting.specs.Count.{eq-test}
-use Rattle.laws.specs.Demand.{mergedInto, reinsertedTo, rebalancedTo, rebuiltTo}
+use Rattle.laws.specs.Moves.{mergedInto, reinsertedTo, rebalancedTo, rebuiltTo}
 
 -- where the merges send entry c, and where the drop sends it then
 abbrev pub sentTo : Settings → Tree → ℕ → ℕ

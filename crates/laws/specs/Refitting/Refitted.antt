@@ -1,31 +1,27 @@
 -- A refit keeps the invariant, with its own rows as the total, and its account is where its rows went.
 use Prim.Native.Nat.{ℕ, zero, suc, _≤_, _<_}
-use mathlib.Core.Path.{_≡_, refl, sym, ap, _∙_, subst}
+use mathlib.Core.Path.{_≡_, refl, ap, _∙_}
 use mathlib.Core.Bool.{Bool, true, false, not, _&&_, false≢true, cond}
-use mathlib.Core.List.{List, _∷_, map}
+use mathlib.Core.List.{List, _∷_, map, []}
 use native.Mathlib.Omega.{arith}
 use lib.Dec.{leb, eqb}
-use lib.ListN.{length, getD}
+use lib.ListN.{length}
 use lib.Ieee.{Float}
 use Rattle.binary64.specs.Whole.{most}
-use Rattle.feature.specs.Summaries.{blank}
 use Rattle.head.specs.declared.Settings.{Settings}
 use Rattle.rules.specs.Lists.{every}
-use Rattle.rules.specs.Tree.{Tree, nodeAt, entryAt, withEntries, withNodes, rowsIn}
+use Rattle.rules.specs.Tree.{Tree, nodeAt, withEntries, withNodes}
 use Rattle.rules.specs.Rebuild.{renumber, dropped}
 use Rattle.rules.specs.Reinsert.{reinserted}
 use Rattle.rules.specs.Refold.{refolded}
 use Rattle.rules.specs.Refit.{anyHollow, refitRounds, refitted, enough}
 use Rattle.counting.specs.Count.{eq-test}
 use Rattle.laws.specs.Invariant.Links.{Links, nil}
-use Rattle.laws.specs.Invariant.Sound.{entryWeight, Caps}
+use Rattle.laws.specs.Invariant.Sound.{Caps}
 use Rattle.laws.specs.Inserting.Grown.{Whole}
 use Rattle.laws.specs.Rebuilding.Restored.{Stale, stale-of, refold-restores}
-use Rattle.laws.specs.Demand.{reinsertedTo, refitOwners, ownersRefit, owns, Made, called}
-use Rattle.laws.specs.Ownership.Made.{AllMade}
-use Rattle.laws.specs.Ownership.Owned.{Owned}
-use Rattle.laws.specs.Refitting.Round.{u, bs, again-whole, w, few-u, moved-again, len-w, pos-u, all-stale, poured-owned, drop-stale, moved-u}
-use Rattle.laws.specs.Refitting.PouredMade.{pour-made}
+use Rattle.laws.specs.Moves.{reinsertedTo, refitOwners}
+use Rattle.laws.specs.Refitting.Round.{u, bs, again-whole, w, few-u, len-w, pos-u, all-stale, drop-stale}
 use Rattle.laws.specs.Running.{reinserted-running, refolded-entries, refolded-running}
 use Rattle.rules.specs.Route.{Route}
 use Rattle.laws.specs.Refitting.Names.{Names}
@@ -33,16 +29,15 @@ use Rattle.laws.specs.Refitting.Walk.{rounds-walk}
 
 -- ---- the rounds
 
--- the rounds of a refit with rows xs left tree v and account a: right links and entries, each entry made of its rows, no more entries
-abbrev pub Ended : Settings → List (List Float) → ℕ → Tree → Tree → List ℕ → Type 0
-Ended s xs top t v a =
-    ((R : ℕ → ℕ) × Stale s v R (length xs)) × Owned v a × (length (v .entries) ≤ top) × (v .running ≡ t .running) × AllMade s (map called xs) (entryAt v) a
+-- the rounds of a refit with rows xs left tree v: right links and entries, and no more entries
+abbrev pub Ended : Settings → List (List Float) → ℕ → Tree → Tree → Type 0
+Ended s xs top t v = ((R : ℕ → ℕ) × Stale s v R (length xs)) × (length (v .entries) ≤ top) × (v .running ≡ t .running)
 
 -- before a round: right links, no more entries; with none to go, what the rounds leave
-abbrev Going : Settings → List (List Float) → ℕ → Tree → ℕ → Tree → List ℕ → Type 0
-Going s xs top t k v a =
+abbrev Going : Settings → List (List Float) → ℕ → Tree → ℕ → Tree → Type 0
+Going s xs top t k v =
     (R : ℕ → ℕ) × Links s (nodeAt v) (length (v .nodes)) (v .root) (length (v .entries)) R nil nil nil × (length (v .entries) ≤ top) × (v .running ≡ t .running)
-    × (k ≡ 0 → Stale s v R (length xs) × Owned v a × AllMade s (map called xs) (entryAt v) a)
+    × (k ≡ 0 → Stale s v R (length xs))
 
 enough-full : (r : ℕ) (u : Tree) → enough r u ≡ true → anyHollow (u .nodes) ≡ false
 unfolding enough
@@ -52,32 +47,25 @@ enough-full r u e = go (anyHollow (u .nodes)) e
     go true e = absurd (false≢true e)
     go false e = refl
 
--- the rounds end in a tree of right links and entries, and in its account
-pub rounds-whole : (s : Settings) (way : Route) → Names s way → (xs : List (List Float)) (top : ℕ) → Caps s → 0 < length xs → length xs ≤ most → (k r : ℕ) (t : Tree) (a : List ℕ)
-    → Going s xs top t k t a → Ended s xs top t (refitRounds s way xs k r t) (refitOwners s way xs k r t a)
-rounds-whole s way names xs top c pos small k r t a begin =
-    rounds-walk s way xs (Going s xs top t) (Ended s xs top t)
-    (λ v a (R, _, few, same, z). let (e, o, m) = z refl in ((R, e), o, few, same, m))
-    (λ k v a (R, g, few, same, _) e. (
+-- the rounds end in a tree of right links and entries
+pub rounds-whole : (s : Settings) (way : Route) → Names s way → (xs : List (List Float)) (top : ℕ) → Caps s → 0 < length xs → length xs ≤ most → (k r : ℕ) (t : Tree)
+    → Going s xs top t k t → Ended s xs top t (refitRounds s way xs k r t)
+rounds-whole s way names xs top c pos small k r t begin =
+    rounds-walk s way xs (λ k v _. Going s xs top t k v) (λ v _. Ended s xs top t v) (λ v _ (R, _, few, same, z). ((R, z refl), few, same))
+    (λ k v _ (R, g, few, same, _) e. (
       (R, all-stale names xs small v g e),
-      poured-owned names xs small v g,
       (let n = len-w names xs small v g in omega arith),
       (unfold withEntries in same),
-      pour-made names xs small v g,
     ))
-    (λ k r v a (R, g, few, same, _) e f. (
+    (λ k r v _ (R, g, few, same, _) e f. (
       (R, drop-stale names xs small v g (enough-full r (u names xs small v g) f)),
-      moved-u names xs small v g .0,
       (let n = few-u names xs small v g e in omega arith),
       (unfold dropped withEntries withNodes in same),
-      moved-u names xs small v g .1 (map called xs) (pour-made names xs small v g),
     ))
-    (λ k v a (R, g, few, same, _) e. again v R g few same e) k r t a begin
+    (λ k v _ (R, g, few, same, _) e. again v R g few same e) k r t [] begin
   where
     again : {k : ℕ} (v : Tree) (R : ℕ → ℕ) (g : Links s (nodeAt v) (length (v .nodes)) (v .root) (length (v .entries)) R nil nil nil) → length (v .entries) ≤ top
-        → v .running ≡ t .running → every (λ b. b) (bs names xs small v g) ≡ false
-        → Going s xs top t k (reinserted s (u names xs small v g))
-        (map (reinsertedTo s (u names xs small v g)) (map (renumber (bs names xs small v g)) (map (way v) xs)))
+        → v .running ≡ t .running → every (λ b. b) (bs names xs small v g) ≡ false → Going s xs top t k (reinserted s (u names xs small v g))
     again v R g few same e =
         let (x, n) = again-whole names xs small v g c pos in
         let less = few-u names xs small v g e in (
@@ -85,62 +73,35 @@ rounds-whole s way names xs top c pos small k r t a begin =
           x .1 .links,
           omega arith,
           reinserted-running s (u names xs small v g) ∙ (unfold dropped withEntries withNodes in same),
-          (λ _. (
-            stale-of s (reinserted s (u names xs small v g)) (x .0) (length xs) (x .1) (x .2),
-            moved-again names xs small v g .0,
-            moved-again names xs small v g .1 (map called xs) (moved-u names xs small v g .1 (map called xs) (pour-made names xs small v g)),
-          )),
+          (λ _. stale-of s (reinserted s (u names xs small v g)) (x .0) (length xs) (x .1) (x .2)),
         )
 
 -- ---- the refit
 
 -- rows into a tree with entries: the invariant, with the refit's rows as the total; no more entries; what runs along stays
-pub refit-whole : (s : Settings) (way : Route) → Names s way → (x : List Float) (xs : List (List Float)) (t : Tree) (old : ℕ) (a : List ℕ) → Caps s → Whole s t old
+pub refit-whole : (s : Settings) (way : Route) → Names s way → (x : List Float) (xs : List (List Float)) (t : Tree) (old : ℕ) → Caps s → Whole s t old
     → 0 < length (t .entries) → suc (length xs) ≤ most
-    → Whole s (refitted s way (x ∷ xs) t) (suc (length xs)) × Owned (refitted s way (x ∷ xs) t) (ownersRefit s way (x ∷ xs) t a)
-    × (length ((refitted s way (x ∷ xs) t) .entries) ≤ length (t .entries)) × ((refitted s way (x ∷ xs) t) .running ≡ t .running)
-    × AllMade s (map called (x ∷ xs)) (entryAt (refitted s way (x ∷ xs) t)) (ownersRefit s way (x ∷ xs) t a)
-unfolding refitted ownersRefit
-refit-whole s way names x xs t old a c w pos small = go (eqb (length (t .entries)) 0) refl
+    → Whole s (refitted s way (x ∷ xs) t) (suc (length xs)) × (length ((refitted s way (x ∷ xs) t) .entries) ≤ length (t .entries))
+    × ((refitted s way (x ∷ xs) t) .running ≡ t .running)
+unfolding refitted
+refit-whole s way names x xs t old c w pos small = go (eqb (length (t .entries)) 0) refl
   where
-    n : ℕ
-    n = length (t .entries)
-
     v : Tree
     v = refitRounds s way (x ∷ xs) (length (t .entries)) 0 t
 
-    b : List ℕ
-    b = refitOwners s way (x ∷ xs) (length (t .entries)) 0 t a
-
-    end : Ended s (x ∷ xs) (length (t .entries)) t v b
+    end : Ended s (x ∷ xs) (length (t .entries)) t v
     end =
-        rounds-whole s way names (x ∷ xs) (length (t .entries)) c (omega arith) small (length (t .entries)) 0 t a
+        rounds-whole s way names (x ∷ xs) (length (t .entries)) c (omega arith) small (length (t .entries)) 0 t
         (w .0, w .1 .links, omega arith, refl, (λ z. absurd (omega arith)))
 
-    same-e : (refolded s v) .entries ≡ v .entries
-    same-e = refolded-entries s v
-
-    same-m : (refolded s v) .running ≡ v .running
-    same-m = refolded-running s v
-
-    same-at : (c : ℕ) → entryAt (refolded s v) c ≡ entryAt v c
-    same-at c = unfold entryAt in ap (λ l. getD l c blank) same-e
-
-    ew : (c : ℕ) → entryWeight (refolded s v) c ≡ entryWeight v c
-    ew c = unfold entryWeight in ap (λ e. rowsIn e) (same-at c)
-
     go : (p : Bool) → eqb (length (t .entries)) 0 ≡ p
-        → Whole s (cond p t (refolded s v)) (suc (length xs)) × Owned (cond p t (refolded s v)) (cond p a b)
-        × (length ((cond p t (refolded s v)) .entries) ≤ length (t .entries)) × ((cond p t (refolded s v)) .running ≡ t .running)
-        × AllMade s (map called (x ∷ xs)) (entryAt (cond p t (refolded s v))) (cond p a b)
+        → Whole s (cond p t (refolded s v)) (suc (length xs)) × (length ((cond p t (refolded s v)) .entries) ≤ length (t .entries))
+        × ((cond p t (refolded s v)) .running ≡ t .running)
     go true e = let z = eq-test (length (t .entries)) 0 true e .0 refl in absurd (omega arith)
     go false e = (
       refold-restores (end .0 .1),
-      (λ c. ew c ∙ end .1 c),
-      (let q : length ((refolded s v) .entries) ≡ length (v .entries) = ap (λ l. length l) same-e in
-          let r = end .2 in omega arith),
-      same-m ∙ end .3,
-      (λ c o. subst (λ e. Made s (map called (x ∷ xs)) e (owns b c)) (sym (same-at c)) (end .4 c o)),
+      (let q : length ((refolded s v) .entries) ≡ length (v .entries) = ap (λ l. length l) (refolded-entries s v) in let r = end .1 in omega arith),
+      refolded-running s v ∙ end .2,
     )
 
 -- ---- the fuel never decides: whatever is given, from the count of entries up, the rounds end alike

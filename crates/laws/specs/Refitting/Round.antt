@@ -17,7 +17,7 @@ use Rattle.feature.specs.Summaries.{blank}
 use Rattle.head.specs.declared.Settings.{Settings}
 use Rattle.rules.specs.Lists.{changeAt, countUp, occurs, every}
 use Rattle.rules.specs.Tree.{push, Node, Tree, nodeAt, entryAt, blankNode, withEntries}
-use Rattle.rules.specs.Rebuild.{renumber, dropped}
+use Rattle.rules.specs.Rebuild.{dropped}
 use Rattle.rules.specs.Reinsert.{reinserted}
 use Rattle.rules.specs.Refit.{poured, reaccumulated, used, hollow, anyHollow}
 use Rattle.laws.specs.Invariant.Weights.{IsExact, Exactly, exact-count, exact-is, push-weigh, blank-exact}
@@ -32,11 +32,7 @@ use Rattle.counting.specs.Flags.{alive, alive-up, alive-down, flag?, up-in}
 use Rattle.laws.specs.Rebuilding.Drop.{dropped-nodes, dropped-entries, leaf-is, drop-frame, drop-rows, drop-counted, size-leaf, drop-links}
 use Rattle.laws.specs.Rebuilding.Reinsert.{reinserted-whole}
 use Rattle.laws.specs.Rebuilding.Restored.{Stale}
-use Rattle.laws.specs.Demand.{reinsertedTo, Origin}
-use Rattle.laws.specs.Ownership.Made.{AllMade}
-use Rattle.laws.specs.Ownership.Owned.{Owned, weight-past, drop-carries}
-use Rattle.laws.specs.Ownership.Merged.{reinsert-carries}
-use Rattle.laws.specs.Ownership.Account.{owned-sum}
+use Rattle.laws.specs.Invariant.Owned.{Owned, weight-past, owned-sum}
 use Rattle.rules.specs.Route.{Route}
 use Rattle.laws.specs.Refitting.Names.{Names}
 
@@ -160,7 +156,7 @@ module _ {s : Settings} {way : Route} (names : Names s way) (xs : List (List Flo
   unfolding withEntries
   len-w = len-es
 
-  len-bs : length bs ≡ length (w .entries)
+  pub len-bs : length bs ≡ length (w .entries)
   unfolding withEntries
   len-bs = length-map es used
 
@@ -201,7 +197,7 @@ module _ {s : Settings} {way : Route} (names : Names s way) (xs : List (List Flo
       let q = poured-owned c in
       (count-w c h, omega arith)
 
-  alive-same : (c : ℕ) → alive bs (entryWeight w) c ≡ entryWeight w c
+  pub alive-same : (c : ℕ) → alive bs (entryWeight w) c ≡ entryWeight w c
   alive-same c = go (flag? bs c) (lt? c (length (t .entries)))
     where
       go : (getD bs c false ≡ true) ⊎ (getD bs c false ≡ false) → (c < length (t .entries)) ⊎ (length (t .entries) ≤ c)
@@ -241,10 +237,6 @@ module _ {s : Settings} {way : Route} (names : Names s way) (xs : List (List Flo
 
   pub few-u : every (λ b. b) bs ≡ false → length (u .entries) < length (t .entries)
   few-u e = let a = len-u in let b = count-lt bs e in let c = len-bs in let d = len-w in omega arith
-
-  -- the account and the makings, when the unused are dropped
-  pub moved-u : Owned u (map (renumber bs) b) × ((ys : List Origin) → AllMade s ys (entryAt w) b → AllMade s ys (entryAt u) (map (renumber bs) b))
-  moved-u = drop-carries s w bs len-bs (map (way t) xs) (λ c. alive-same c ∙ poured-owned c)
 
   pub frame-u : Frame (nodeAt u) (length (u .nodes)) (u .root) (length (u .entries)) R
   frame-u = drop-frame w bs (length xs) links-w len-bs live sums
@@ -286,8 +278,3 @@ module _ {s : Settings} {way : Route} (names : Names s way) (xs : List (List Flo
 
   pub again-whole : Caps s → 0 < length xs → Whole s (reinserted s u) (length xs) × (length ((reinserted s u) .entries) ≡ length (u .entries))
   again-whole c h = reinserted-whole u (length xs) c frame-u rows-u counted-u small (pos-u h)
-
-  -- and when what is left is reinserted
-  pub moved-again : Owned (reinserted s u) (map (λ c. reinsertedTo s u c) (map (renumber bs) b)) × ((ys : List Origin)
-      → AllMade s ys (entryAt u) (map (renumber bs) b) → AllMade s ys (entryAt (reinserted s u)) (map (λ c. reinsertedTo s u c) (map (renumber bs) b)))
-  moved-again = reinsert-carries s u frame-u (map (renumber bs) b) (moved-u .0)

@@ -11,7 +11,7 @@ use Rattle.rules.specs.Rebuild.{renumber, dropped}
 use Rattle.rules.specs.Reinsert.{reinserted}
 use Rattle.rules.specs.Route.{Route}
 use Rattle.rules.specs.Refit.{reaccumulated, used, enough, refitRounds}
-use Rattle.laws.specs.Demand.{reinsertedTo, refitOwners}
+use Rattle.laws.specs.Moves.{reinsertedTo, refitOwners}
 
 -- a round: the entries made anew, which of them are used, and the tree without the others
 abbrev pub anew : Settings → Route → List (List Float) → Tree → Tree

@@ -21,8 +21,7 @@ use Rattle.laws.specs.Splitting.Tied.{tied-links}
 use Rattle.laws.specs.Splitting.Crown.{crowned-links}
 use Rattle.laws.specs.Splitting.Groups.{stayList, moveList}
 use Rattle.laws.specs.Splitting.Nodes.{split-length}
-use Rattle.laws.specs.Splitting.Extended.{extended, extend-added, extend-sum, extend-length}
-use Rattle.laws.specs.Splitting.Extended.{crowned-length, crowned-n, crowned-sum, crowned-parts}
+use Rattle.laws.specs.Splitting.Extended.{extended, extend-added, extend-sum, extend-length, crowned-length, crowned-n, crowned-sum, crowned-parts}
 use Rattle.laws.specs.Invariant.Weigh.{Weighs, Short}
 use Rattle.laws.specs.Splitting.Weighed.{tied-weighs, crown-weighs}
 use Rattle.laws.specs.Invariant.Sound.{entryWeight, nodeWeight, Settled, Looking, Caps, cap-some}

@@ -5,7 +5,7 @@ use borrow.Author.Needs.{needs}
 use lib.Seq.{length-take-le}
 use native.Mathlib.Nat.{sub-zero}
 use Rattle.head.specs.Heads.{settingsOf}
-use Rattle.laws.specs.Runs.Serving.{sizes-of}
+use Rattle.laws.specs.Resting.Serving.{sizes-of}
 use Rattle.lines.specs.Runs.{Stands}
 use Rattle.lines.specs.Rows.{row-says, malformed-read}
 use Rattle.lines.proofs.read_row.Statement.{statement}

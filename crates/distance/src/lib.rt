@@ -1,12 +1,12 @@
-// Six distances from a summary to a row and between two summaries. Euclidean is squared; no square root is taken.
+// Six distances from a summary to a row and between two summaries, by the numbers that they are made of. Euclidean is squared; no
+// square root is taken.
 ghost use mathlib.Core.Path.{_≡_};
 ghost use Prim.Native.Nat.{_≤_};
 ghost use lib.ListN.{length};
 ghost use Rattle.kernels.specs.Channels.{at, sumTo};
 ghost use Rattle.feature.specs.Summaries.{Dim};
-ghost use Rattle.distance.specs.Distances.{gapOf, ssdOf, increaseOf, toRow, toSummary, pointOf, betweenOf, mergeCost};
+ghost use Rattle.distance.specs.Distances.{gapOf, ssdOf, increaseOf, toRow, toSummary};
 use feature::Feature;
-use feature::Summary;
 
 pub enum Distance {
     CentroidEuclidean,
@@ -120,42 +120,4 @@ pub fn to_summary(k: Distance, na: f64, nb: f64, q: f64, va: f64, vb: f64) -> f6
             }
         }
     }
-}
-
-// The distance k from s to a row.
-pub fn point(k: Distance, f: Feature, dim: usize, s: Summary, row: &[f64]) -> f64
-    requires { ⌜ Dim dim × (dim ≤ length (now row)) ⌝ }
-    ensures { λ r. ⌜ r ≡ pointOf k f dim s (now (row .entry)) ⌝ }
-{
-    let m = s.mean;
-    let v = s.deviation;
-    let q = gap(k, dim, &m, row);
-    let t = ssd(f, dim, &v);
-    to_row(k, s.weight, q, t)
-}
-
-// The distance k between a and b.
-pub fn between(k: Distance, f: Feature, dim: usize, a: Summary, b: Summary) -> f64
-    requires { ⌜ Dim dim ⌝ }
-    ensures { λ r. ⌜ r ≡ betweenOf k f dim a b ⌝ }
-{
-    let m = a.mean;
-    let o = b.mean;
-    let u = a.deviation;
-    let v = b.deviation;
-    let q = gap(k, dim, &m, &o);
-    let s = ssd(f, dim, &u);
-    let t = ssd(f, dim, &v);
-    to_summary(k, a.weight, b.weight, q, s, t)
-}
-
-// What merging a and b costs a rebuild, whatever the distances chosen.
-pub fn merge_cost(dim: usize, a: Summary, b: Summary) -> f64
-    requires { ⌜ Dim dim ⌝ }
-    ensures { λ r. ⌜ r ≡ mergeCost dim a b ⌝ }
-{
-    let m = a.mean;
-    let o = b.mean;
-    let q = kernels::sq_euclidean(dim, &m, &o);
-    increase(a.weight, b.weight, q)
 }

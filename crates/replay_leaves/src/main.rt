@@ -1,5 +1,5 @@
-// Takes steps of the leaf functions whose answers were made from the Rust, and prints the number of each one that differs,
-// then how many there were.
+// Takes steps over a tree's entries whose answers were made from the Rust, and prints the number of each one that differs, then how
+// many there were.
 mod vectors;
 
 use crate::vectors::Outcome;

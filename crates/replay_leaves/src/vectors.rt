@@ -1,11 +1,18 @@
 // A vector is a line of words: a step's number, a feature's number, dim, two summaries a and b, and what the Rust answered.
-// A summary is its weight, dim means and dim deviations. The steps: 0 pushes b's mean into a, 1 merges b into a, 2 to 7 are the
-// six distances from a to b's mean, 8 to 13 those between a and b, 14 is what merging a and b costs.
+// A summary is its weight, dim means and dim deviations. The steps: 0 pushes b's mean into a, 1 merges b into a, 2 to 7 are the six
+// distances from a to b's mean, 8 to 13 those between a and b, 14 is what merging a and b costs.
+// They are the library's own steps over the entries of a tree. A tree of M 1 has five slots, three for its nodes and two for its
+// entries, which are a and b; what the Rust answered stands in a sixth.
+ghost use mathlib.Core.Path.{_≡_};
 ghost use Prim.Native.Nat.{_+_, _*_, _≤_};
-ghost use Rattle.feature.specs.Summaries.{Dim};
-use distance::Distance;
-use feature::Feature;
-use feature::Summary;
+ghost use lib.ListN.{length};
+ghost use Rattle.head.specs.Limits.{Sized};
+ghost use Rattle.head.specs.Sizes.{slotWidth};
+ghost use Rattle.arena.specs.Trees.{Floats};
+use arena::entries;
+use head::Counters;
+use head::Head;
+use head::Settings;
 use replay::words;
 use replay::words::Word;
 
@@ -40,147 +47,109 @@ fn begun() -> Heading {
     }
 }
 
-// How many numbers follow: two summaries, and a summary or one number.
-fn numbers(step: u64, dim: usize) -> usize
-    requires { ⌜ Dim dim ⌝ }
-    ensures { λ r. ⌜ r ≤ 51 ⌝ }
-{
-    let size = 1 + 2 * dim;
-    if step < 2 { 3 * size } else { 2 * size + 1 }
-}
-
-// Reads n numbers, of which the last ends its line, and answers whether they were there.
-fn fill(x: &mut [f64; 51], n: usize) -> bool
-    requires { ⌜ n ≤ 51 ⌝ }
-{
+// Reads the numbers of p, of which the last ends its line, and answers whether they were there.
+fn fill(p: &mut [f64]) -> bool {
+    let n = p.len();
     for i in 0..n {
         let after = if i + 1 == n { b'\n' } else { b' ' };
         let Word::Number(bits) = words::next(after) else {
             return false;
         };
-        x[i] = binary64::of_bits(bits);
+        p[i] = binary64::of_bits(bits);
     }
     true
 }
 
-// The summary whose numbers begin at x[at].
-fn summary(x: &[f64; 51], at: usize, dim: usize) -> Summary
-    requires { ⌜ Dim dim × (at + 1 + 2 * dim ≤ 51) ⌝ }
+// Reads the numbers of a vector to slots 3 to 5, w floats each: a, b, and a summary or one number.
+fn read(step: u64, w: usize, floats: &mut [f64]) -> bool
+    requires { ⌜ (1 ≤ w) × (6 * w ≤ length (now floats)) ⌝ }
 {
-    let mut mean = [0.0; 8];
-    let mut deviation = [0.0; 8];
-    for i in 0..8 {
-        if i < dim {
-            mean[i] = x[at + 1 + i];
-            deviation[i] = x[at + 1 + dim + i];
-        }
+    if step < 2 {
+        return fill(&mut floats[3 * w..6 * w]);
     }
-    Summary {
-        weight: x[at],
-        mean,
-        deviation,
-    }
+    fill(&mut floats[3 * w..5 * w + 1])
 }
 
-fn distance(step: u64) -> Distance {
-    match step {
-        2 | 8 => Distance::CentroidEuclidean,
-        3 | 9 => Distance::CentroidManhattan,
-        4 | 10 => Distance::AverageIntercluster,
-        5 | 11 => Distance::AverageIntracluster,
-        6 | 12 => Distance::VarianceIncrease,
-        _ => Distance::Radius,
-    }
-}
-
-// The number that a step answers.
-fn measured(step: u64, f: Feature, dim: usize, a: Summary, b: Summary) -> f64
-    requires { ⌜ Dim dim ⌝ }
+// Takes step 0 or 1: entry 0 becomes its answer.
+fn change(step: u64, s: Settings, n: Counters, floats: &mut [f64])
+    requires { ⌜ Floats s n (length (now floats)) × (n .entries ≡ 2) ⌝ }
 {
-    if step < 8 {
-        let row = b.mean;
-        return distance::point(distance(step), f, dim, a, &row);
-    }
-    if step < 14 {
-        return distance::between(distance(step), f, dim, a, b);
-    }
-    distance::merge_cost(dim, a, b)
-}
-
-// The summary that a step answers, or its number in place of the weight of one that is otherwise 0, as a vector is read.
-fn answer(step: u64, f: Feature, dim: usize, a: Summary, b: Summary) -> Summary
-    requires { ⌜ Dim dim ⌝ }
-{
+    let b = entries::summary(s, n, floats, 1);
     if step == 0 {
         let row = b.mean;
-        return feature::push(f, dim, a, &row);
+        entries::push(s, n, floats, 0, &row);
+        return;
     }
-    if step == 1 {
-        return feature::merge(f, dim, a, b);
-    }
-    Summary {
-        weight: measured(step, f, dim, a, b),
-        mean: [0.0; 8],
-        deviation: [0.0; 8],
-    }
+    entries::merge(s, n, floats, 0, b);
 }
 
-fn alike(a: [f64; 8], b: [f64; 8]) -> bool {
-    for i in 0..8 {
-        if !binary64::same(a[i], b[i]) {
+// The number that a later step answers. Its distance is the tree's `dist`.
+fn measured(step: u64, s: Settings, n: Counters, floats: &[f64]) -> f64
+    requires { ⌜ Floats s n (length (now floats)) × (n .entries ≡ 2) ⌝ }
+{
+    let k = s.dist;
+    if step < 8 {
+        let b = entries::summary(s, n, floats, 1);
+        let row = b.mean;
+        return entries::to_row(s, n, floats, 0, k, &row);
+    }
+    if step < 14 {
+        return entries::between(s, n, floats, 0, 1, k);
+    }
+    entries::merge_cost(s, n, floats, 0, 1)
+}
+
+// Whether w floats from p on are the same as those from q on.
+fn alike(floats: &[f64], p: usize, q: usize, w: usize) -> bool
+    requires { ⌜ (p + w ≤ length (now floats)) × (q + w ≤ length (now floats)) ⌝ }
+{
+    for i in 0..w {
+        if !binary64::same(floats[p + i], floats[q + i]) {
             return false;
         }
     }
     true
 }
 
-fn same(a: Summary, b: Summary) -> bool {
-    let m = a.mean;
-    let n = b.mean;
-    let u = a.deviation;
-    let v = b.deviation;
-    if binary64::same(a.weight, b.weight) && alike(m, n) {
-        alike(u, v)
-    } else {
-        false
-    }
-}
-
-fn agrees(step: u64, f: Feature, dim: usize, x: &[f64; 51]) -> bool
-    requires { ⌜ Dim dim ⌝ }
+// Takes the step, and answers whether its answer is the Rust's.
+fn agrees(step: u64, s: Settings, n: Counters, floats: &mut [f64]) -> bool
+    requires { ⌜ Floats s n (length (now floats)) × (n .entries ≡ 2) × (6 * slotWidth s ≤ length (now floats)) ⌝ }
 {
-    let size = 1 + 2 * dim;
-    let a = summary(x, 0, dim);
-    let b = summary(x, size, dim);
-    let r = summary(x, 2 * size, dim);
-    same(answer(step, f, dim, a, b), r)
+    let w = s.slot_width();
+    if step < 2 {
+        change(step, s, n, floats);
+        return alike(floats, 3 * w, 5 * w, w);
+    }
+    binary64::same(measured(step, s, n, floats), floats[5 * w])
 }
 
 // Reads the numbers of a vector and takes its step.
-fn taken(step: u64, f: Feature, dim: usize) -> Outcome
-    requires { ⌜ Dim dim ⌝ }
+fn taken(step: u64, s: Settings) -> Outcome
+    requires { ⌜ Sized s × (s .«max_leaves» ≡ 1) ⌝ }
 {
-    let mut x = [0.0; 51];
-    if !fill(&mut x, numbers(step, dim)) {
+    let n = Counters::new(0.0).with_entries(2);
+    let mut floats = [0.0; 102];
+    if !read(step, s.slot_width(), &mut floats) {
         return Outcome::Malformed;
     }
-    if agrees(step, f, dim, &x) {
+    if agrees(step, s, n, &mut floats) {
         Outcome::Agrees
     } else {
         Outcome::Differs
     }
 }
 
-// The same where the heading's numbers are those of a vector.
+// The same where the heading's numbers are those of a vector. Steps 2 to 7 and 8 to 13 have the distances in the head's order.
 fn tried(step: u64, f: u64, dim: u64) -> Outcome {
-    if step > 14 || dim < 1 || dim > 8 {
+    if step > 14 || f > 1 {
         return Outcome::Malformed;
     }
-    match f {
-        0 => taken(step, Feature::Spherical, dim as usize),
-        1 => taken(step, Feature::Diagonal, dim as usize),
-        _ => Outcome::Malformed,
+    let dist = (step as u32 + 4) % Head::DISTANCES;
+    let h = Head::new(dim as usize, 2, 1, 1, f as u32, dist, dist, 0.0);
+    if !h.is_allowed() {
+        return Outcome::Malformed;
     }
+    taken(step, h.settings())
 }
 
 // Reads the next vector and takes its step.

@@ -1,4 +1,4 @@
--- `vectors::measured` meets what each distance asks: a mean has 8 places, and dim is at most 8.
+-- `vectors::measured` meets what each distance asks: there are two entries, and a mean has 8 places.
 use mathlib.Core.Path.{_≡_}
 use native.Mathlib.Omega.{arith}
 use borrow.Author.Needs.{needs}
@@ -6,14 +6,14 @@ use lib.ListN.{length}
 use Rattle.replay_leaves.proofs.vectors.measured.Statement.{statement}
 use Rattle.replay_leaves.proofs.vectors.measured.Tie as tie
 
-abbrev start : tie.After-row2 → tie.Start
-start c = c .before .before .before .before
-
-point-requires : tie.Need-point-requires
-point-requires c κs = let l : length (start c .args .b .mean) ≡ 8 = search needs in (search needs, omega arith)
+to-row-requires : tie.Need-to-row-requires
+to-row-requires c κs =
+    let (floats, two) = c .before .before .before .before .before .pre in
+    let long : length (c .before .before .summary .result .mean) ≡ 8 = search needs in
+    (floats, omega (arith, two), omega (arith, long, floats .sized .dim-few))
 
 pub measured-spec : {M : Type 1} → statement M
 measured-spec =
     tie.close
-    (tie.spec (λ c κs. search needs) (λ c. search needs) point-requires (λ c. search needs) (λ c κs. search needs) (λ c κs. search needs)
-    (λ c. search needs) (λ c κs. search needs) (λ c. search needs))
+    (tie.spec (λ c κs. search needs) (λ c. search needs) to-row-requires (λ c. search needs) (λ c κs. search needs) (λ c. search needs)
+    (λ c κs. search needs) (λ c. search needs))

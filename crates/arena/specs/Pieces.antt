@@ -7,16 +7,16 @@ use native.Mathlib.Numerals.{add-one}
 use native.Mathlib.Omega.{arith}
 use lib.ListN.{length, take, drop, replicate, length-append, length-take, length-drop}
 use lib.Seq.{drop-at, drop-drop}
-use Rattle.rules.specs.Lists.{joined, table}
+use Rattle.rules.specs.Lists.{concat, table}
 use Rattle.rules.specs.Slices.{stretch, filledTo}
 use Rattle.stretch.specs.Stretches.{putStretch, put-past, put-rest, length-stretch}
-use Rattle.arena.specs.Tables.{table-more, joined-snoc}
+use Rattle.arena.specs.Tables.{table-more, concat-snoc}
 use Rattle.arena.specs.Numbered.{cut, putCut, cut-is, put-is}
 
 module _ {A : Type 0} where
   -- the first k pieces of w, each by out
   unfoldable pub piecesOf : (List A → List A) → ℕ → List A → ℕ → List A
-  piecesOf out w l k = joined (table (λ i. out (stretch l (i * w) w)) k)
+  piecesOf out w l k = concat (table (λ i. out (stretch l (i * w) w)) k)
 
   -- and what stands behind them
   unfoldable pub partly : (List A → List A) → ℕ → List A → ℕ → List A
@@ -28,22 +28,22 @@ module _ {A : Type 0} where
 
   module _ (out : List A → List A) (w : ℕ) (keeps : Keeps out w) (l : List A) where
     pub partly-none : l ≡ partly out w l 0
-    unfolding partly piecesOf joined table
+    unfolding partly piecesOf concat table
     partly-none = ap (λ n. drop n l) (sym (zero-mul w))
 
     pieces-more : (i : ℕ) → piecesOf out w l (i + 1) ≡ piecesOf out w l i ++ out (stretch l (i * w) w)
     unfolding piecesOf
-    pieces-more i = ap joined (table-more (λ i. out (stretch l (i * w) w)) i)
-        ∙ joined-snoc (table (λ i. out (stretch l (i * w) w)) i) (out (stretch l (i * w) w))
+    pieces-more i = ap concat (table-more (λ i. out (stretch l (i * w) w)) i)
+        ∙ concat-snoc (table (λ i. out (stretch l (i * w) w)) i) (out (stretch l (i * w) w))
 
     pub length-pieces : (k : ℕ) → k * w ≤ length l → length (piecesOf out w l k) ≡ k * w
-    unfolding piecesOf joined table
+    unfolding piecesOf concat table
     length-pieces zero h = sym (zero-mul w)
     length-pieces (suc k) h =
         let s = suc-mul k w in
         let last = stretch l (k * w) w in
-        ap length (joined-snoc (table (λ i. out (stretch l (i * w) w)) k) (out last))
-        ∙ length-append (joined (table (λ i. out (stretch l (i * w) w)) k)) (out last)
+        ap length (concat-snoc (table (λ i. out (stretch l (i * w) w)) k) (out last))
+        ∙ length-append (concat (table (λ i. out (stretch l (i * w) w)) k)) (out last)
         ∙ ap₂ (λ a b. a + b) (length-pieces k (omega arith)) (keeps last (length-stretch l (k * w) w (omega arith)))
         ∙ sym s
 

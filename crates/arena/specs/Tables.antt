@@ -7,7 +7,7 @@ use native.Mathlib.Nat.{eq-or-lt-of-le}
 use native.Mathlib.Numerals.{add-one}
 use native.Mathlib.Omega.{arith}
 use lib.ListN.{length}
-use Rattle.rules.specs.Lists.{changeAt, snoc, joined, table}
+use Rattle.rules.specs.Lists.{changeAt, snoc, concat, table}
 use Rattle.rules.specs.ListLaws.{length-table}
 use Rattle.stretch.specs.Stretches.{append-none}
 
@@ -48,10 +48,10 @@ module _ {A : Type 0} where
       (eq-or-lt-of-le (omega arith))
 
   -- pieces one after the other: one more
-  pub joined-snoc : (ls : List (List A)) (l : List A) → joined (snoc ls l) ≡ joined ls ++ l
-  unfolding joined snoc
-  joined-snoc [] l = append-none l
-  joined-snoc (m ∷ ls) l = ap (λ k. m ++ k) (joined-snoc ls l) ∙ sym (append-assoc m (joined ls) l)
+  pub concat-snoc : (ls : List (List A)) (l : List A) → concat (snoc ls l) ≡ concat ls ++ l
+  unfolding concat snoc
+  concat-snoc [] l = append-none l
+  concat-snoc (m ∷ ls) l = ap (λ k. m ++ k) (concat-snoc ls l) ∙ sym (append-assoc m (concat ls) l)
 
 pub map-table : {A B : Type 0} (h : A → B) (f : ℕ → A) (n : ℕ) → map h (table f n) ≡ table (λ i. h (f i)) n
 unfolding table snoc

@@ -13,7 +13,7 @@ use Rattle.head.specs.declared.Settings.{Settings}
 use Rattle.head.specs.declared.Counters.{Counters}
 use Rattle.head.specs.Limits.{Sized}
 use Rattle.head.specs.Sizes.{nodeCap, entryCap, slotWidth, blockWidth, floatsNeeded, linksNeeded}
-use Rattle.rules.specs.Lists.{joined}
+use Rattle.rules.specs.Lists.{concat}
 use Rattle.rules.specs.Tree.{Node}
 use Rattle.rules.specs.Slices.{stretch, filledTo, summaryIn, summaryOut, nodeIn, blockOut, slotAt, blockAt, treeOf, floatsOf, linksOf}
 use Rattle.rules.specs.Stored.{out-long, block-long}
@@ -43,7 +43,7 @@ unfolding piecesOf linksOf treeOf tidyBlock blockAt
 links-tidied s c fs ls e =
     let w = blockWidth s in
     let node : ℕ → Node = λ i. nodeIn s (slotAt s fs i) (stretch ls (i * w) w) in
-    ap₂ (λ n l. filledTo n 0 (joined l)) e
+    ap₂ (λ n l. filledTo n 0 (concat l)) e
     (table-same (λ i. blockOut s (nodeIn s [] (stretch ls (i * w) w))) (λ i. blockOut s (node i)) (c .nodes) (λ i h. unfold blockOut nodeIn in refl)
     ∙ sym (map-table (blockOut s) node (c .nodes)))
 
@@ -54,22 +54,22 @@ module _ (s : Settings) (c : Counters) (fs : List Float) (ls : List ℕ) (n : �
   w = slotWidth s
 
   -- the nodes' slots, cut off at their cap
-  nodes-part : piecesOf (tidySlot s) w (take (nodeCap s * w) fs) (c .nodes) ≡ joined (map (λ n. summaryOut s (n .summary)) (treeOf s c fs ls .nodes))
+  nodes-part : piecesOf (tidySlot s) w (take (nodeCap s * w) fs) (c .nodes) ≡ concat (map (λ n. summaryOut s (n .summary)) (treeOf s c fs ls .nodes))
   unfolding piecesOf treeOf tidySlot slotAt w
   nodes-part =
       let node : ℕ → Node = λ i. nodeIn s (stretch fs (i * w) w) (blockAt s ls i) in
-      ap joined
+      ap concat
       (table-same (λ i. summaryOut s (summaryIn s (stretch (take (nodeCap s * w) fs) (i * w) w))) (λ i. summaryOut s (node i .summary)) (c .nodes)
       (λ i h. unfold nodeIn in ap (λ p. summaryOut s (summaryIn s p))
       (take-stretch fs (nodeCap s * w) (i * w) w (room i (nodeCap s) w (nodeCap s * w) (let k = F .nodes-in in omega arith) (omega arith))))
       ∙ sym (map-table (λ (n : Node). summaryOut s (n .summary)) node (c .nodes)))
 
   -- the entries' slots, behind them
-  entries-part : piecesOf (tidySlot s) w (drop (nodeCap s * w) fs) (c .entries) ≡ joined (map (summaryOut s) (treeOf s c fs ls .entries))
+  entries-part : piecesOf (tidySlot s) w (drop (nodeCap s * w) fs) (c .entries) ≡ concat (map (summaryOut s) (treeOf s c fs ls .entries))
   unfolding piecesOf treeOf tidySlot slotAt w
   entries-part =
       let entry : ℕ → Summary = λ i. summaryIn s (stretch fs ((nodeCap s + i) * w) w) in
-      ap joined
+      ap concat
       (table-same (λ i. summaryOut s (summaryIn s (stretch (drop (nodeCap s * w) fs) (i * w) w))) (λ i. summaryOut s (entry i)) (c .entries)
       (λ i h. ap (λ p. summaryOut s (summaryIn s p)) (unfold stretch in ap (take w)
       (drop-drop (i * w) (nodeCap s * w) fs ∙ ap (λ j. drop j fs) (sym (add-mul (nodeCap s) i w)))))
@@ -93,8 +93,8 @@ module _ (s : Settings) (c : Counters) (fs : List Float) (ls : List ℕ) (n : �
       let count : length (drop cap fs) ≡ entryCap s * w = length-drop cap fs ∙ omega arith in
       let lent : take (length (a ++ drop j fs) - k) (drop k (a ++ drop j fs)) ≡ drop cap fs =
       ap (take (length (a ++ drop j fs) - k)) behind ∙ take-all (length (a ++ drop j fs) - k) (drop cap fs) (omega arith) in
-      let one : a ≡ filledTo cap f0 (joined (map (λ n. summaryOut s (n .summary)) (treeOf s c fs ls .nodes))) =
+      let one : a ≡ filledTo cap f0 (concat (map (λ n. summaryOut s (n .summary)) (treeOf s c fs ls .nodes))) =
       ea ∙ ap₂ (λ x l. filledTo x f0 l) front (ap (λ x. piecesOf (tidySlot s) w (take x fs) (c .nodes)) (ej ∙ ek) ∙ nodes-part) in
-      let two : b ≡ filledTo (entryCap s * w) f0 (joined (map (summaryOut s) (treeOf s c fs ls .entries))) =
+      let two : b ≡ filledTo (entryCap s * w) f0 (concat (map (summaryOut s) (treeOf s c fs ls .entries))) =
       eb ∙ ap (λ l. filledTo (length l) f0 (piecesOf (tidySlot s) w l (c .entries))) lent ∙ ap₂ (λ x l. filledTo x f0 l) count entries-part in
       put-rest a (drop j fs) b k (length (a ++ drop j fs) - k) (la ∙ front ∙ sym ek) (length-drop j fs ∙ omega arith) ∙ ap₂ (λ x y. x ++ y) one two

@@ -3,7 +3,7 @@ ghost use mathlib.Core.Path.{_≡_};
 ghost use Prim.Native.Nat.{_+_, _≤_, _<_};
 ghost use lib.ListN.{length, getD, take};
 ghost use Rattle.head.specs.Sizes.{blockWidth};
-ghost use Rattle.rules.specs.Tree.{nodeAt, adding, listing, under};
+ghost use Rattle.rules.specs.Tree.{nodeAt, adding, withList, under};
 ghost use Rattle.rules.specs.Slices.{blockAt, noParent};
 ghost use Rattle.stretch.specs.Blocks.{parentOf, ParentFits, relinked};
 ghost use Rattle.arena.specs.Numbered.{BlockIn, Relinked};
@@ -84,7 +84,7 @@ pub fn link(
 // The list of node i becomes the first len of a list.
 pub fn set_list(s: Settings, n: Counters, links: &mut [u32], i: usize, list: &[u32], len: usize)
     requires { ⌜ Links s n (length (now links)) × (i < n .nodes) × (len + 2 ≤ blockWidth s) × (len ≤ length (now list)) ⌝ }
-    ensures { λ _. ⌜ LinksTo s n (now (links .entry)) n (now (links .exit)) (onNode (listing (take len (now (list .entry)))) i) ⌝ }
+    ensures { λ _. ⌜ LinksTo s n (now (links .entry)) n (now (links .exit)) (onNode (withList (take len (now (list .entry)))) i) ⌝ }
 {
     let w = s.block_width();
     let at = i * w;

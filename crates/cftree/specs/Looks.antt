@@ -8,11 +8,11 @@ use Rattle.head.specs.declared.refusal.Refusal.{Refusal}
 use Rattle.head.specs.declared.refusal.Answer.{Answer}
 use Rattle.head.specs.declared.refusal.Answer.the-variants.{Accepted, Refused}
 use Rattle.rules.specs.declared.Places.{Places}
-use Rattle.rules.specs.Calls.{Listed, Written, answerOf, fronted, write, listedBy}
+use Rattle.rules.specs.Calls.{Shown, Written, answerOf, fronted, write, shownBy}
 use Rattle.rules.specs.RefusalLaws.{accepted-none}
 use Rattle.cftree.specs.declared.look.Listing.{Listing}
 
-abbrev pub listing : Listing → Listed
+abbrev pub listing : Listing → Shown
 listing r = record { answer = r .answer; places = r .places }
 
 module _ {A : Type 0} where
@@ -36,15 +36,15 @@ module _ {A : Type 0} where
 -- the listing
 module _ (h : Head) (rs : List Refusal) {a : Answer} (e : a ≡ answerOf rs) where
   pub unlisted : {r : Refusal} → a ≡ Refused r
-      → listing (record { answer = a; places = record { entries = 0; first = 0; width = 0; means = 0; deviations = 0 } }) ≡ listedBy rs h
-  unfolding answerOf listedBy
+      → listing (record { answer = a; places = record { entries = 0; first = 0; width = 0; means = 0; deviations = 0 } }) ≡ shownBy rs h
+  unfolding answerOf shownBy
   unlisted {r} q = go rs e
     where
       go : (rs : List Refusal) → a ≡ answerOf rs
-          → listing (record { answer = a; places = record { entries = 0; first = 0; width = 0; means = 0; deviations = 0 } }) ≡ listedBy rs h
+          → listing (record { answer = a; places = record { entries = 0; first = 0; width = 0; means = 0; deviations = 0 } }) ≡ shownBy rs h
       go [] e = let z : _≡_ {A = ℕ} 0 1 = cc in absurd (omega arith)
       go (x ∷ rs) e = rw e
 
-  pub all-listed : a ≡ Accepted → {p : Places} → p ≡ listedBy [] h .places → listing (record { answer = a; places = p }) ≡ listedBy rs h
-  unfolding listedBy
+  pub all-listed : a ≡ Accepted → {p : Places} → p ≡ shownBy [] h .places → listing (record { answer = a; places = p }) ≡ shownBy rs h
+  unfolding shownBy
   all-listed q o = rw (accepted-none rs (sym e ∙ q), q, o)

@@ -1,6 +1,6 @@
 // The calls that only read the tree.
 ghost use mathlib.Core.Path.{_≡_};
-ghost use Rattle.rules.specs.Calls.{routed, spreadWritten, validated, listed};
+ghost use Rattle.rules.specs.Calls.{routed, spreadWritten, validated, entriesShown};
 ghost use Rattle.cftree.specs.Looks.{listing, written};
 use head::Head;
 use head::refusal::Answer;
@@ -25,7 +25,7 @@ pub fn validate(h: Head, floats: &[f64], links: &[u32]) -> Answer
 
 // Where a caller reads the weight, the means and the deviations of each entry, in order.
 pub fn entries(h: Head, floats: &[f64], links: &[u32]) -> Listing
-    ensures { λ r. ⌜ listing r ≡ listed h (now (floats .entry)) (now (links .entry)) ⌝ }
+    ensures { λ r. ⌜ listing r ≡ entriesShown h (now (floats .entry)) (now (links .entry)) ⌝ }
 {
     let answer = lent::look(h, floats, links);
     let Answer::Accepted = answer else {

@@ -10,7 +10,7 @@ use Rattle.feature.specs.declared.Feature.the-variants.{Spherical, Diagonal}
 use Rattle.distance.specs.declared.Distance.the-variants.{CentroidEuclidean, CentroidManhattan, AverageIntercluster, AverageIntracluster, VarianceIncrease, Radius}
 use Rattle.head.specs.Heads.{newHead, featureAt, distanceAt, withCounters}
 use Rattle.head.specs.declared.Head.{Head}
-use Rattle.rules.specs.Calls.{Lent, Left, created, rowInserted, batchInserted, batchRefitted, routed, spreadWritten, listed}
+use Rattle.rules.specs.Calls.{Lent, Left, created, rowInserted, batchInserted, batchRefitted, routed, spreadWritten, entriesShown}
 use Rattle.rules.specs.declared.Places.{Places}
 use Rattle.rules.specs.Listing.{bytes, featureWord, distanceWord}
 use Rattle.rules.specs.Seen.{answerSeen, bits}
@@ -169,9 +169,9 @@ spread-seen = refl
 
 -- ---- the listing: no entry and one, its weight at word 15 of slots of 5, two means, and one deviation or two
 
-places-seen : placesSeen (listed (head 0) (empty-floats f0) empty-links .places)
-    ∷ placesSeen (listed (one-entry 0) full-floats full-links .places)
-    ∷ placesSeen (listed (one-entry 1) full-floats full-links .places)
+places-seen : placesSeen (entriesShown (head 0) (empty-floats f0) empty-links .places)
+    ∷ placesSeen (entriesShown (one-entry 0) full-floats full-links .places)
+    ∷ placesSeen (entriesShown (one-entry 1) full-floats full-links .places)
     ∷ []
     ≡ (0 ∷ 15 ∷ 5 ∷ 2 ∷ 1 ∷ []) ∷ (1 ∷ 15 ∷ 5 ∷ 2 ∷ 1 ∷ []) ∷ (1 ∷ 15 ∷ 5 ∷ 2 ∷ 2 ∷ []) ∷ []
 unfolding computes placesSeen

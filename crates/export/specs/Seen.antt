@@ -1,7 +1,7 @@
 -- What a call that only reads gives back and writes: the rules' outcome, its answer in numbers.
 use mathlib.Core.Path.{_≡_, ap}
 use mathlib.Core.List.{List}
-use Rattle.rules.specs.Calls.{Listed, Written}
+use Rattle.rules.specs.Calls.{Shown, Written}
 use Rattle.head.specs.declared.refusal.Answer.{Answer}
 use Rattle.cftree.specs.Looks as Plain
 use Rattle.cftree.specs.declared.look.Listing.{Listing}
@@ -11,7 +11,7 @@ use Rattle.export.specs.declared.ListingNumbers.{ListingNumbers}
 
 -- ---- where the entries stand
 
-unfoldable pub listedNumbers : Listed → ListingNumbers
+unfoldable pub listedNumbers : Shown → ListingNumbers
 listedNumbers l =
     let p = l .places in
     record { answer = answerNumbers (l .answer); entries = p .entries; first = p .first; width = p .width; means = p .means; deviations = p .deviations }

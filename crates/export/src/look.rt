@@ -1,6 +1,6 @@
 // The calls that only read the tree.
 ghost use mathlib.Core.Path.{_≡_};
-ghost use Rattle.rules.specs.Calls.{routed, spreadWritten, validated, listed};
+ghost use Rattle.rules.specs.Calls.{routed, spreadWritten, validated, entriesShown};
 ghost use Rattle.boundary.specs.Numbers.{headOf, answerNumbers};
 ghost use Rattle.export.specs.Seen.{listedNumbers, written, writtenNumbers};
 use crate::ListingNumbers;
@@ -24,7 +24,7 @@ pub extern "C" fn cftree_validate(h: HeadNumbers, floats: &[f64], links: &[u32])
 // Where a caller reads the weight, the means and the deviations of each entry, in order.
 #[no_mangle]
 pub extern "C" fn cftree_entries(h: HeadNumbers, floats: &[f64], links: &[u32]) -> ListingNumbers
-    ensures { λ r. ⌜ r ≡ listedNumbers (listed (headOf h) (now (floats .entry)) (now (links .entry))) ⌝ }
+    ensures { λ r. ⌜ r ≡ listedNumbers (entriesShown (headOf h) (now (floats .entry)) (now (links .entry))) ⌝ }
 {
     let h = head_of(h);
     let listing = look::entries(h, floats, links);

@@ -6,7 +6,7 @@ use Prim.Native.Nat.{ℕ}
 use lib.Ieee.{Float, le}
 use Rattle.binary64.specs.Operators.{_⊕_, _⊘_, f0, f1}
 use Rattle.kernels.specs.Channels.{upTo}
-use Rattle.feature.specs.Steps.{movedAt, pushed, joined, merged}
+use Rattle.feature.specs.Steps.{movedAt, pushed, blended, merged}
 use Rattle.feature.specs.declared.Feature.{Feature}
 use Rattle.feature.specs.declared.Summary.{Summary}
 
@@ -22,17 +22,17 @@ module _ (f g : Feature) (n : ℕ) where
     means = ap₂ (λ w m. upTo (movedAt (f1 ⊘ (w ⊕ f1)) m x) n m) (h .weights) (h .means);
   }
 
-  joined-agree : (a b c d : Summary) → Agree a b → Agree c d → Agree (joined f n a c) (joined g n b d)
-  unfolding joined
+  joined-agree : (a b c d : Summary) → Agree a b → Agree c d → Agree (blended f n a c) (blended g n b d)
+  unfolding blended
   joined-agree a b c d h k = record { weights = ap₂ (λ v w. v ⊕ w) (h .weights) (k .weights); means = rw (h .weights, h .means, k .weights, k .means) }
 
   pub merged-agree : (a b c d : Summary) → Agree a b → Agree c d → Agree (merged f n a c) (merged g n b d)
   unfolding merged
   merged-agree a b c d h k =
-      subst (λ p. Agree (merged f n a c) (cond p b (cond (le (b .weight) f0) d (joined g n b d)))) (ap (λ w. le w f0) (k .weights))
-      (subst (λ q. Agree (merged f n a c) (cond (le (c .weight) f0) b (cond q d (joined g n b d)))) (ap (λ w. le w f0) (h .weights)) (same (le (c .weight) f0) (le (a .weight) f0)))
+      subst (λ p. Agree (merged f n a c) (cond p b (cond (le (b .weight) f0) d (blended g n b d)))) (ap (λ w. le w f0) (k .weights))
+      (subst (λ q. Agree (merged f n a c) (cond (le (c .weight) f0) b (cond q d (blended g n b d)))) (ap (λ w. le w f0) (h .weights)) (same (le (c .weight) f0) (le (a .weight) f0)))
     where
-      same : (p q : Bool) → Agree (cond p a (cond q c (joined f n a c))) (cond p b (cond q d (joined g n b d)))
+      same : (p q : Bool) → Agree (cond p a (cond q c (blended f n a c))) (cond p b (cond q d (blended g n b d)))
       same true q = h
       same false true = k
       same false false = joined-agree a b c d h k

@@ -11,7 +11,7 @@ use Rattle.binary64.specs.Operators.{f0}
 use Rattle.kernels.specs.Channels.{at, upTo}
 use Rattle.kernels.specs.Laws.{length-upTo, upTo-past}
 use Rattle.feature.specs.Summaries.{slotsOf, blank}
-use Rattle.feature.specs.Steps.{deviated, pushed, joined, merged}
+use Rattle.feature.specs.Steps.{deviated, pushed, blended, merged}
 use Rattle.feature.specs.declared.Feature.{Feature}
 use Rattle.feature.specs.declared.Feature.the-variants.{Spherical, Diagonal}
 use Rattle.feature.specs.declared.Summary.{Summary}
@@ -53,8 +53,8 @@ module _ (f : Feature) (n : ℕ) where
   unfolding pushed
   pushed-shaped s x h = record { means = eight-upTo _ n (s .mean) (h .means); deviations = eight-deviated f n _ _ _ _ (h .deviations) }
 
-  joined-shaped : (s o : Summary) → Shaped f n s → Shaped f n (joined f n s o)
-  unfolding joined
+  joined-shaped : (s o : Summary) → Shaped f n s → Shaped f n (blended f n s o)
+  unfolding blended
   joined-shaped s o h =
       record {
         means = eight-upTo _ n (s .mean) (h .means);
@@ -65,7 +65,7 @@ module _ (f : Feature) (n : ℕ) where
   unfolding merged
   merged-shaped s o h k = go (le (o .weight) f0) (le (s .weight) f0)
     where
-      go : (a b : Bool) → Shaped f n (cond a s (cond b o (joined f n s o)))
+      go : (a b : Bool) → Shaped f n (cond a s (cond b o (blended f n s o)))
       go true b = h
       go false true = k
       go false false = joined-shaped s o h

@@ -38,8 +38,8 @@ pushed f n s x =
     }
 
 -- o merged into s, where both have weight
-unfoldable pub joined : Feature → ℕ → Summary → Summary → Summary
-joined f n s o =
+unfoldable pub blended : Feature → ℕ → Summary → Summary → Summary
+blended f n s o =
     let w = s .weight ⊕ o .weight in
     let sum = upTo (bothAt (s .deviation) (o .deviation)) (slotsOf f n) (s .deviation) in
     record {
@@ -50,4 +50,4 @@ joined f n s o =
 
 -- Merge of o into s: nothing if o's weight is ≤ 0; a copy of o if s's is ≤ 0
 unfoldable pub merged : Feature → ℕ → Summary → Summary → Summary
-merged f n s o = cond (le (o .weight) f0) s (cond (le (s .weight) f0) o (joined f n s o))
+merged f n s o = cond (le (o .weight) f0) s (cond (le (s .weight) f0) o (blended f n s o))

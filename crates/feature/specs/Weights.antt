@@ -11,7 +11,7 @@ use Rattle.binary64.specs.Operators.{_⊕_, f0, f1}
 use Rattle.binary64.specs.Whole.{whole, most, whole-0, add-whole, add-row}
 use Rattle.binary64.specs.Order.{le-zero}
 use Rattle.feature.specs.Summaries.{blank}
-use Rattle.feature.specs.Steps.{pushed, joined, merged}
+use Rattle.feature.specs.Steps.{pushed, blended, merged}
 use Rattle.feature.specs.declared.Feature.{Feature}
 use Rattle.feature.specs.declared.Summary.{Summary}
 
@@ -41,12 +41,12 @@ module _ (f : Feature) (n : ℕ) where
   merged-copy s o b h p q = rw (q, le-zero (suc b) h, some b, p)
 
   pub merged-joined : (s o : Summary) (a b : ℕ) → suc a ≤ most → suc b ≤ most
-      → s .weight ≡ whole (suc a) → o .weight ≡ whole (suc b) → merged f n s o ≡ joined f n s o
+      → s .weight ≡ whole (suc a) → o .weight ≡ whole (suc b) → merged f n s o ≡ blended f n s o
   unfolding merged
   merged-joined s o a b h k p q = rw (q, le-zero (suc b) k, some b, p, le-zero (suc a) h, some a)
 
   pub merged-weight : (s o : Summary) (a b : ℕ) → a ≤ most → b ≤ most → s .weight ≡ whole a → o .weight ≡ whole b → merged f n s o .weight ≡ whole (a + b)
-  unfolding joined
+  unfolding blended
   merged-weight s o a zero h k p q = ap (λ z. z .weight) (merged-none s o q) ∙ p ∙ ap whole (omega arith)
   merged-weight s o zero (suc b) h k p q = ap (λ z. z .weight) (merged-copy s o b k (zero-low p) q) ∙ q ∙ ap whole (omega arith)
   merged-weight s o (suc a) (suc b) h k p q =

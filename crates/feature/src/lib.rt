@@ -4,7 +4,7 @@ ghost use Prim.Native.Nat.{_≤_};
 ghost use lib.ListN.{length};
 ghost use Rattle.kernels.specs.Channels.{upTo};
 ghost use Rattle.feature.specs.Summaries.{Dim, slotsOf, blank};
-ghost use Rattle.feature.specs.Steps.{movedAt, addedAt, bothAt, deviated, pushed, joined, merged};
+ghost use Rattle.feature.specs.Steps.{movedAt, addedAt, bothAt, deviated, pushed, blended, merged};
 
 // How deviation is kept: one number for all channels, or one a channel.
 pub enum Feature {
@@ -129,7 +129,7 @@ pub fn push(f: Feature, dim: usize, s: Summary, row: &[f64]) -> Summary
 // o merged into s, where both have weight.
 fn join(f: Feature, dim: usize, s: Summary, o: Summary) -> Summary
     requires { ⌜ Dim dim ⌝ }
-    ensures { λ r. ⌜ r ≡ joined f dim s o ⌝ }
+    ensures { λ r. ⌜ r ≡ blended f dim s o ⌝ }
 {
     let weight = s.weight + o.weight;
     let factor = o.weight / weight;

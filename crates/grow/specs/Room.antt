@@ -11,10 +11,10 @@ use Rattle.feature.specs.declared.Summary.{Summary}
 use Rattle.head.specs.declared.Settings.{Settings}
 use Rattle.head.specs.declared.Counters.{Counters}
 use Rattle.head.specs.Sizes.{entryCap, blockWidth}
-use Rattle.rules.specs.Tree.{Tree, push, merge, distTo, distBetween, nodeAt, cap, rowsIn}
+use Rattle.rules.specs.Tree.{Tree, push, merge, distTo, distBetween, nodeAt, cap, rowCount}
 use Rattle.rules.specs.Slices.{treeOf}
 use Rattle.rules.specs.Descent.{leafFor, alongPath}
-use Rattle.rules.specs.Split.{settled}
+use Rattle.rules.specs.Split.{splitFrom}
 use Rattle.rules.specs.Insert.{begun, absorbedOrBegun, placed, grownAt, grown, rowItem, summaryItem}
 use Rattle.rules.specs.Reinsert.{replaced}
 use Rattle.laws.specs.Invariant.Weights.{IsExact}
@@ -24,7 +24,7 @@ use Rattle.laws.specs.Inserting.Items.{row-weighty, summary-weighty, item-place
 use Rattle.laws.specs.Check.Both.{AtRest}
 use Rattle.laws.specs.ForCode.{Sure, sure-of}
 use Rattle.arena.specs.Trees.{Floats, count-nodes, count-entries}
-use Rattle.listed.specs.Sure.{children-in, path-sure}
+use Rattle.bounds.specs.Sure.{children-in, path-sure}
 use Rattle.split.specs.Rising.{Rising, rising-placed}
 use Rattle.grow.specs.Places.{Place}
 
@@ -40,8 +40,8 @@ pub record Placeable (s : Settings) (t : Tree) (e : Summary) : Type 0 where
   pub total : ℕ
   pub holds : Holding s t total
   pub exact : IsExact e
-  pub some : 1 ≤ rowsIn e
-  pub few : total + rowsIn e ≤ most
+  pub some : 1 ≤ rowCount e
+  pub few : total + rowCount e ≤ most
   pub room : length (t .entries) < entryCap s
 
 -- a tree between calls takes a row more
@@ -102,7 +102,7 @@ module _ (s : Settings) (n : Counters) (fs gs : List Float) (ls : List ℕ) (x :
         let q = item-placed (rowItem s x) (row-weighty s x) true (leafFor t (λ c. distTo s c x)) t (g .rows) (g .holds) here kind (omega (arith, g .few)) in
         rw l (rising-placed s m hs ks f (q .1) (p ∙ rw (e, l)))
 
-    pub grown-is : {u : Tree} → u ≡ settled s leaf (treeOf s m hs ks) → u ≡ grown s (rowItem s x) (treeOf s n fs ls)
+    pub grown-is : {u : Tree} → u ≡ splitFrom s leaf (treeOf s m hs ks) → u ≡ grown s (rowItem s x) (treeOf s n fs ls)
     unfolding grown grownAt
     grown-is q = q ∙ rw (p, e, l)
 
@@ -125,6 +125,6 @@ module _ (s : Settings) (n : Counters) (fs gs : List Float) (ls : List ℕ) (c :
         let q = item-placed i (summary-weighty s c (g .exact) (g .some)) false (leafFor t (i .near)) t (g .total) (g .holds) here kind (g .few) in
         rw l (rising-placed s m hs ks f (q .1) (p ∙ rw (e, l)))
 
-    pub replaced-is : {u : Tree} → u ≡ settled s leaf (treeOf s m hs ks) → u ≡ replaced s c (treeOf s n fs ls)
+    pub replaced-is : {u : Tree} → u ≡ splitFrom s leaf (treeOf s m hs ks) → u ≡ replaced s c (treeOf s n fs ls)
     unfolding replaced
     replaced-is q = q ∙ rw (p, e, l)

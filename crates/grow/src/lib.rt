@@ -7,7 +7,7 @@ ghost use Rattle.head.specs.Sizes.{entryCap, blockWidth};
 ghost use Rattle.head.specs.Counting.{countEntries};
 ghost use Rattle.rules.specs.Tree.{nodeAt};
 ghost use Rattle.rules.specs.Slices.{summaryIn, treeOf};
-ghost use Rattle.rules.specs.Split.{settled};
+ghost use Rattle.rules.specs.Split.{splitFrom};
 ghost use Rattle.rules.specs.Insert.{rowItem, begun, absorbs, placed, grown};
 ghost use Rattle.rules.specs.Reinsert.{replaced};
 ghost use Rattle.stretch.specs.Slots.{Slot};
@@ -86,12 +86,18 @@ fn place(
 }
 
 // Nodes over their caps split, from node i up; most often none is.
-fn settle(s: Settings, n: Counters, floats: &mut [f64], links: &mut [u32], i: usize) -> Counters
+fn split_if_over(
+    s: Settings,
+    n: Counters,
+    floats: &mut [f64],
+    links: &mut [u32],
+    i: usize,
+) -> Counters
     requires { ⌜ Floats s n (length (now floats)) × Links s n (length (now links)) ⌝ }
     requires { ⌜ Rising s (n .nodes) n i (treeOf s n (now floats) (now links)) ⌝ }
     ensures { λ r. ⌜ Floats s r (length (now (floats .entry))) × Links s r (length (now (links .entry))) ⌝ }
     ensures { λ r. ⌜
-        treeOf s r (now (floats .exit)) (now (links .exit)) ≡ settled s i (treeOf s n (now (floats .entry)) (now (links .entry))) ⌝ }
+        treeOf s r (now (floats .exit)) (now (links .exit)) ≡ splitFrom s i (treeOf s n (now (floats .entry)) (now (links .entry))) ⌝ }
 {
     if fits(s, n, links, i) {
         return n;
@@ -116,7 +122,7 @@ pub fn grow(
     let leaf = descend(s, n, floats, links, Form::Row, row);
     feed_path(s, n, floats, links, leaf, Form::Row, row);
     let m = place(s, n, floats, links, leaf, row);
-    settle(s, m, floats, links, leaf)
+    split_if_over(s, m, floats, links, leaf)
 }
 
 // The summary in a slot of its own as a new entry, nothing absorbed.

@@ -67,7 +67,7 @@ module _ (s : Settings) (a b i m n : ℕ) (x y c : Summary) where
 abbrev Chooser : Type 0
 Chooser = ℕ → ℕ → ℕ → Summary → Bool
 
-pub record Placed (f : Chooser) (g : ℕ → Summary) (l : List ℕ) (k : ℕ) (one : List ℕ) (m : ℕ) (two : List ℕ) (n : ℕ) : Type 0 where
+pub record Dealt (f : Chooser) (g : ℕ → Summary) (l : List ℕ) (k : ℕ) (one : List ℕ) (m : ℕ) (two : List ℕ) (n : ℕ) : Type 0 where
   pub first : take m one ++ keep (sides f k m n (map g (drop k l))) (drop k l) ≡ keep (sides f 0 0 0 (map g l)) l
   pub second : take n two ++ keep (flip (sides f k m n (map g (drop k l)))) (drop k l) ≡ keep (flip (sides f 0 0 0 (map g l))) l
 
@@ -76,7 +76,7 @@ one-more : (one : List ℕ) (m c : ℕ) (r w : List ℕ) → m < length one → 
 one-more one m c r w h e = rw (add-one, take-suc-set one m c h, append-assoc) e
 
 module _ (f : Chooser) (g : ℕ → Summary) (l : List ℕ) where
-  pub placed-start : (one two : List ℕ) → Placed f g l 0 one 0 two 0
+  pub placed-start : (one two : List ℕ) → Dealt f g l 0 one 0 two 0
   placed-start one two = record { first = refl; second = refl }
 
   module _ (k m n : ℕ) (one two : List ℕ) (h : k < length l) where
@@ -85,8 +85,8 @@ module _ (f : Chooser) (g : ℕ → Summary) (l : List ℕ) where
     unfolding sides
     flag b e = rw (drop-cons l k 0 h, e)
 
-    pub placed-first : m < length one → true ≡ f k m n (g (getD l k 0)) → Placed f g l k one m two n
-        → Placed f g l (k + 1) (set one m (getD l k 0)) (m + 1) two n
+    pub placed-first : m < length one → true ≡ f k m n (g (getD l k 0)) → Dealt f g l k one m two n
+        → Dealt f g l (k + 1) (set one m (getD l k 0)) (m + 1) two n
     unfolding plusIf keep flip
     placed-first q e p =
         let up = flag true (sym e) in
@@ -96,8 +96,8 @@ module _ (f : Chooser) (g : ℕ → Summary) (l : List ℕ) where
           second = rw (add-one k, add-one m) (rw (up, here) at (p .second));
         }
 
-    pub placed-second : n < length two → false ≡ f k m n (g (getD l k 0)) → Placed f g l k one m two n
-        → Placed f g l (k + 1) one m (set two n (getD l k 0)) (n + 1)
+    pub placed-second : n < length two → false ≡ f k m n (g (getD l k 0)) → Dealt f g l k one m two n
+        → Dealt f g l (k + 1) one m (set two n (getD l k 0)) (n + 1)
     unfolding plusIf keep flip
     placed-second q e p =
         let down = flag false (sym e) in
@@ -115,7 +115,7 @@ module _ (s : Settings) (g : ℕ → Summary) (l : List ℕ) (w : Seeds) (k m n 
   flags-are h = rw (map-at g l (w .a) 0 blank (h .0), map-at g l (w .b) 0 blank (h .1))
 
   pub placed-end : Within (length l) w → length l ≡ k → m + n ≡ k → length one ≡ 17 → length two ≡ 17
-      → Placed (side s (w .a) (w .b) (g (getD l (w .a) 0)) (g (getD l (w .b) 0))) g l k one m two n
+      → Dealt (side s (w .a) (w .b) (g (getD l (w .a) 0)) (g (getD l (w .b) 0))) g l k one m two n
       → Parted (sidesBy s (seedsOf w) (map g l)) l (record { one = one; ones = m; two = two; twos = n })
   unfolding keep
   placed-end h e a o t p =

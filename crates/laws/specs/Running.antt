@@ -17,7 +17,7 @@ use Rattle.rules.specs.declared.Nearest.{Nearest}
 use Rattle.rules.specs.declared.Nearest.the-variants.{Entry, Nothing}
 use Rattle.rules.specs.Tree.{Node, Tree, nodeAt, entryAt, merge, distBetween, withNodes, withEntries, withRoot}
 use Rattle.rules.specs.Descent.{searched, leafFor, alongPath}
-use Rattle.rules.specs.Split.{split, parted, crowned, fitting, splitNext, splitIf, splitUp, settled}
+use Rattle.rules.specs.Split.{split, parted, crowned, fitting, splitNext, splitIf, splitUp, splitFrom}
 use Rattle.rules.specs.Insert.{begun, absorbed, absorbs, absorbedOrBegun, placed, grownAt, grown, Item}
 use Rattle.rules.specs.Reinsert.{collected, cleared, replaced, replacedAll, reinserted}
 use Rattle.rules.specs.Refold.{refoldOne, refoldAll, refolded, preorder}
@@ -80,8 +80,8 @@ refolded-entries s t = refolded-keeps (λ u. u .entries) (λ ns u. refl) (λ r u
 
 -- ---- what runs along: threshold, rebuild count and merged total
 
-settled-running : (s : Settings) (i : ℕ) (t : Tree) → (settled s i t) .running ≡ t .running
-unfolding settled withNodes withRoot
+settled-running : (s : Settings) (i : ℕ) (t : Tree) → (splitFrom s i t) .running ≡ t .running
+unfolding splitFrom withNodes withRoot
 settled-running s i t = splitUp-keeps (λ u. u .running) (λ ns u. refl) (λ r u. refl) s (length (t .nodes)) i t
 
 joined-running : (i : Item) (l : ℕ) (r : Nearest) (t : Tree) → (absorbedOrBegun i l r t) .running ≡ t .running

@@ -13,9 +13,9 @@ use Rattle.rules.specs.declared.Nearest.{Nearest}
 use Rattle.rules.specs.declared.Nearest.the-variants.{Entry, Nothing}
 use Rattle.rules.specs.Lists.{changeAt, snoc, keep, flip}
 use Rattle.rules.specs.Tree.{Node, Tree, push, merge, distTo, distBetween, nodeAt, entryAt, blankNode, child}
-use Rattle.rules.specs.Tree.{withNodes, withEntries, withRoot, onRunning, summed, listing, adding, under}
+use Rattle.rules.specs.Tree.{withNodes, withEntries, withRoot, onRunning, summed, withList, adding, under}
 use Rattle.rules.specs.Descent.{searched, leafFor, climbed, alongPath}
-use Rattle.rules.specs.Split.{gathered, stays, adopted, half, parted, split, crowned, fitting, splitNext, splitIf, splitUp, settled}
+use Rattle.rules.specs.Split.{gathered, stays, adopted, half, parted, split, crowned, fitting, splitNext, splitIf, splitUp, splitFrom}
 use Rattle.rules.specs.Insert.{begun, absorbed, absorbs, absorbedOrBegun, placed, grownAt, grown, rowItem}
 use Rattle.rules.specs.Reinsert.{collected, cleared, replaced, replacedAll, reinserted}
 use Rattle.rules.specs.Refold.{foldBalanced, refoldOne, refoldAll, refolded, preorder}
@@ -75,7 +75,7 @@ module _ (s : Settings) (Q : Summary → Type 0) (none-q : Q blank) (push-q : (x
   path-q f p l t h = nodes-q (climbed f (length (t .nodes)) (some l) (t .nodes)) t (climbed-q f p (length (t .nodes)) (some l) (t .nodes) (h .nodes)) h
 
   begun-q : (l : ℕ) (e : Summary) (t : Tree) → Q e → Throughout Q t → Throughout Q (begun l e t)
-  unfolding begun adding listing withEntries snoc
+  unfolding begun adding withList withEntries snoc
   begun-q l e t q h =
       nodes-q (changeAt (adding (length (t .entries))) l (t .nodes)) (withEntries (snoc (t .entries) e) t)
       (all-change (OfNode Q) (adding (length (t .entries))) (λ m r. r) l (t .nodes) (h .nodes))
@@ -121,7 +121,7 @@ module _ (s : Settings) (Q : Summary → Type 0) (none-q : Q blank) (push-q : (x
 
   next-q : (go : ℕ → Tree → Tree) (i j : ℕ) (o : Option ℕ) (u : Tree) → ((p : ℕ) (v : Tree) → Throughout Q v → Throughout Q (go p v)) → Throughout Q u
       → Throughout Q (splitNext s go i j o u)
-  unfolding splitNext adding listing
+  unfolding splitNext adding withList
   next-q go i j none u f h = crowned-q i j u h
   next-q go i j (some p) u f h =
       f p (withNodes (changeAt (adding j) p (u .nodes)) u)
@@ -149,7 +149,7 @@ module _ (s : Settings) (Q : Summary → Type 0) (none-q : Q blank) (push-q : (x
       (begun-q l (push s x blank) t (push-q x blank none-q) h)
 
   grown-q : (x : List Float) (t : Tree) → Throughout Q t → Throughout Q (grown s (rowItem s x) t)
-  unfolding grown grownAt placed settled
+  unfolding grown grownAt placed splitFrom
   grown-q x t h =
       let l = leafFor t (λ c. distTo s c x) in
       let u = alongPath (push s x) l t in
@@ -157,7 +157,7 @@ module _ (s : Settings) (Q : Summary → Type 0) (none-q : Q blank) (push-q : (x
       up-q (length ((absorbedOrBegun (rowItem s x) l r u) .nodes)) l (absorbedOrBegun (rowItem s x) l r u) (joined-q x l r u (path-q (push s x) (push-q x) l t h))
 
   replacedAll-q : (es : List Summary) (t : Tree) → All Q es → Throughout Q t → Throughout Q (replacedAll s es t)
-  unfolding replacedAll replaced settled
+  unfolding replacedAll replaced splitFrom
   replacedAll-q [] t e h = h
   replacedAll-q (c ∷ es) t e h =
       let l = leafFor t (λ d. distBetween s d c) in
@@ -226,7 +226,7 @@ module _ (s : Settings) (Q : Summary → Type 0) (none-q : Q blank) (push-q : (x
     where
       pruned-q : (ns : List Node) → All (OfNode Q) ns → All (OfNode Q) (map (pruned bs) ns)
       pruned-q [] h = tt
-      pruned-q (n ∷ ns) h = (unfold pruned listing in h .0, pruned-q ns (h .1))
+      pruned-q (n ∷ ns) h = (unfold pruned withList in h .0, pruned-q ns (h .1))
 
   rebuilt-q : (t : Tree) → Throughout Q t → Throughout Q (rebuilt s t)
   rebuilt-q t h =

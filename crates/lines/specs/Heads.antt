@@ -28,9 +28,9 @@ use Rattle.laws.specs.Resting.Serving.{Serving, created-fresh}
 use Rattle.reasons.specs.declared.Reason.{Reason}
 use Rattle.lines.specs.declared.Run.{Run}
 use Rattle.lines.specs.declared.Stage.the-variants as Stages
-use Rattle.lines.specs.Runs.{listedAt, listed, Stands, LineRead, badRun, bad-read}
+use Rattle.lines.specs.Runs.{listedAt, printedOf, Stands, LineRead, badRun, bad-read}
 use Rattle.lines.specs.Lines.{first-none}
-use Rattle.rules.specs.CallLaws.{Roomy}
+use Rattle.rules.specs.CallLaws.{Granted}
 
 -- ---- a head that line 1 sets
 
@@ -113,7 +113,7 @@ module _ (h : Head) (ok : Taken h) (fs : List Float) (ks : List ℕ) (floats-roo
   few = ok .0
 
   -- its tree has room
-  pub roomy : Roomy h fs ks
+  pub roomy : Granted h fs ks
   roomy =
       let p = floats-enough s sized few in
       let q = links-enough s sized few in
@@ -149,8 +149,8 @@ module _ (h : Head) (ok : Taken h) (fs : List Float) (ks : List ℕ) (floats-roo
   behind o = record { head = o .head; stage = Stages.Rows; number = 2; long = 0 }
 
   made-read : (run : Run) (l : List ℕ) → firstLine l ≡ some h
-      → LineRead (listed Stages.First run fs ks) l (behind (madeBy [] h fs ks)) (madeBy [] h fs ks .floats) (madeBy [] h fs ks .links)
-  unfolding Stands listed listedAt
+      → LineRead (printedOf Stages.First run fs ks) l (behind (madeBy [] h fs ks)) (madeBy [] h fs ks .floats) (madeBy [] h fs ks .links)
+  unfolding Stands printedOf listedAt
   made-read run l e = record {
     none-left = refl;
     stands = record { rows = 0; serving = made-serving; number = refl; few = (unfold madeBy withCounters in ok .0) };
@@ -161,13 +161,13 @@ module _ (h : Head) (ok : Taken h) (fs : List Float) (ks : List ℕ) (floats-roo
   }
 
   pub created-read : (run : Run) (l : List ℕ) → firstLine l ≡ some h → (o : Made) → o ≡ madeBy [] h fs ks
-      → LineRead (listed Stages.First run fs ks) l (behind o) (o .floats) (o .links)
+      → LineRead (printedOf Stages.First run fs ks) l (behind o) (o .floats) (o .links)
   created-read run l e o m =
-      subst (λ (o : Made). LineRead (listed Stages.First run fs ks) l (behind o) (o .floats) (o .links)) (sym m) (made-read run l e)
+      subst (λ (o : Made). LineRead (printedOf Stages.First run fs ks) l (behind o) (o .floats) (o .links)) (sym m) (made-read run l e)
 
 -- ---- no head
 
 pub no-head : (run : Run) {q : Run} (why : Reason) → q ≡ badRun why run → (l : List ℕ) (fs : List Float) (ks : List ℕ)
-    → Stands Stages.First run fs ks → firstLine l ≡ none → LineRead (listed Stages.First run fs ks) l q fs ks
-unfolding Stands listed listedAt
-no-head run why b l fs ks k e = bad-read run why b l fs ks (listed Stages.First run fs ks) (λ ls. first-none l ls e ∙ ap badLine (sym k))
+    → Stands Stages.First run fs ks → firstLine l ≡ none → LineRead (printedOf Stages.First run fs ks) l q fs ks
+unfolding Stands printedOf listedAt
+no-head run why b l fs ks k e = bad-read run why b l fs ks (printedOf Stages.First run fs ks) (λ ls. first-none l ls e ∙ ap badLine (sym k))

@@ -24,7 +24,7 @@ use Rattle.reasons.specs.declared.Reason.{Reason}
 use Rattle.lines.specs.declared.Stage.{Stage}
 use Rattle.lines.specs.declared.Stage.the-variants as Stages
 use Rattle.lines.specs.declared.Run.{Run}
-use Rattle.lines.specs.Runs.{reads-more, listedAt, listed, printed, Reads, Stands, Reading, LineRead, badRun, bad-stands, bad-lists}
+use Rattle.lines.specs.Runs.{reads-more, listedAt, printedOf, printed, Reads, Stands, Reading, LineRead, badRun, bad-stands, bad-lists}
 
 -- ---- pieces
 
@@ -65,8 +65,8 @@ row-none s n t l ls e =
     ap f e
 
 too-long : (st : Stage) (r : Run) (fs : List Float) (ks : List ℕ) (l : List ℕ) (ls : List (List ℕ)) → Stands st r fs ks → 200 < length l
-    → listed st r fs ks (l ∷ ls) ≡ badLine (r .number)
-unfolding Stands listed listedAt
+    → printedOf st r fs ks (l ∷ ls) ≡ badLine (r .number)
+unfolding Stands printedOf listedAt
 too-long Stages.First r fs ks l ls k h = first-none l ls (line-long l h) ∙ ap badLine (sym k)
 too-long Stages.Rows r fs ks l ls k h = row-none _ _ _ l ls (line-floats _ _ l ∙ stops _ _ (floats-long l h))
 too-long (Stages.Bad why) r fs ks l ls k h = refl
@@ -80,7 +80,7 @@ pub record Pushed (run : Run) (b : ℕ) (before : List ℕ) (r : Run) (after : L
 
 module _ (run : Run) (b : ℕ) (line : List ℕ) (room : 200 ≤ length line) where
   pub pushed-bad : (why : Reason) → run .long ≡ 200 → Pushed run b line (badRun why run) line
-  unfolding badRun printed listed
+  unfolding badRun printed printedOf
   pushed-bad why e = record {
     reading = (λ fs ks w. record { short = omega arith; stands = bad-stands (run .stage) why (badRun why run) fs ks });
     reads = (λ fs ks w n. record {
@@ -91,7 +91,7 @@ module _ (run : Run) (b : ℕ) (line : List ℕ) (room : 200 ≤ length line) wh
           let g = longer (b ∷ p) rest (omega arith) in
           let z = g .3 in
           bad-lists (run .stage) why (run .number) (run .head) (lentTree (run .head) fs ks) (cut 10 false [] rest)
-          ∙ sym (ap (listed (run .stage) run fs ks) (cut-byte b p rest n ∙ g .2) ∙ too-long (run .stage) run fs ks (g .0) (g .1) (w .stands) (omega arith));
+          ∙ sym (ap (printedOf (run .stage) run fs ks) (cut-byte b p rest n ∙ g .2) ∙ too-long (run .stage) run fs ks (g .0) (g .1) (w .stands) (omega arith));
     });
   }
 
@@ -105,7 +105,7 @@ module _ (run : Run) (b : ℕ) (line : List ℕ) (room : 200 ≤ length line) wh
   same-stands (Stages.Bad why) fs ks k = tt
 
   pub pushed-byte : run .long < 200 → Pushed run b line grown (set line (run .long) b)
-  unfolding printed listed
+  unfolding printed printedOf
   pushed-byte h = record {
     reading = (λ fs ks w. record { short = omega arith; stands = same-stands (run .stage) fs ks (w .stands) });
     reads = (λ fs ks w n. record {
@@ -114,7 +114,7 @@ module _ (run : Run) (b : ℕ) (line : List ℕ) (room : 200 ≤ length line) wh
           let piece : reverse (take (run .long + 1) (set line (run .long) b)) ≡ b ∷ reverse p =
           ap (λ m. reverse (take m (set line (run .long) b))) (add-one (run .long)) ∙ ap reverse (take-suc-set line (run .long) b (omega arith))
           ∙ reverse-append p (b ∷ []) in
-          ap (listed (run .stage) run fs ks) (ap (λ q. cut 10 false q rest) piece ∙ sym (cut-byte b (reverse p) rest n));
+          ap (printedOf (run .stage) run fs ks) (ap (λ q. cut 10 false q rest) piece ∙ sym (cut-byte b (reverse p) rest n));
     });
   }
 
@@ -145,29 +145,29 @@ module _ (run : Run) (before after bytes : List ℕ) (i long : ℕ) where
 -- ---- a newline, and the end
 
 module _ (run : Run) (line : List ℕ) (fs : List Float) (ks : List ℕ) (r : Run) (gs : List Float) (js : List ℕ) where
-  pub newline-read : LineRead (listed (run .stage) run fs ks) (take (run .long) line) r gs js → (after : List ℕ)
+  pub newline-read : LineRead (printedOf (run .stage) run fs ks) (take (run .long) line) r gs js → (after : List ℕ)
       → (b : ℕ) → b ≡ 10 → Reads (printed run line fs ks) (b ∷ []) (printed r after gs js)
   unfolding printed
   newline-read w after b e = record {
     then = λ rest.
         let p = take (run .long) line in
-        ap (λ n. listed (r .stage) r gs js (cut 10 false (reverse (take n after)) rest)) (w .none-left)
+        ap (λ n. printedOf (r .stage) r gs js (cut 10 false (reverse (take n after)) rest)) (w .none-left)
         ∙ w .reads (cut 10 false [] rest)
-        ∙ ap (listed (run .stage) run fs ks) (ap (λ q. q ∷ cut 10 false [] rest) (sym (reverse-reverse p)) ∙ sym (cut-line (reverse p) rest)
+        ∙ ap (printedOf (run .stage) run fs ks) (ap (λ q. q ∷ cut 10 false [] rest) (sym (reverse-reverse p)) ∙ sym (cut-line (reverse p) rest)
         ∙ ap (λ b. cut 10 false (reverse p) (b ∷ rest)) (sym e));
   }
 
   -- the last line needs no newline
-  pub end-read : 0 < run .long → run .long ≤ length line → LineRead (listed (run .stage) run fs ks) (take (run .long) line) r gs js
-      → listed (r .stage) r gs js [] ≡ printed run line fs ks []
+  pub end-read : 0 < run .long → run .long ≤ length line → LineRead (printedOf (run .stage) run fs ks) (take (run .long) line) r gs js
+      → printedOf (r .stage) r gs js [] ≡ printed run line fs ks []
   unfolding printed
   end-read long room w =
       let p = take (run .long) line in
       let k = length-take-le (run .long) line room in
       let q = length-reverse p in
-      w .reads [] ∙ ap (listed (run .stage) run fs ks) (ap (λ q. q ∷ []) (sym (reverse-reverse p)) ∙ sym (cut-end (reverse p) (omega arith)))
+      w .reads [] ∙ ap (printedOf (run .stage) run fs ks) (ap (λ q. q ∷ []) (sym (reverse-reverse p)) ∙ sym (cut-end (reverse p) (omega arith)))
 
 -- an empty last piece is no line
-pub no-end : (run : Run) (line : List ℕ) (fs : List Float) (ks : List ℕ) → run .long ≡ 0 → listed (run .stage) run fs ks [] ≡ printed run line fs ks []
+pub no-end : (run : Run) (line : List ℕ) (fs : List Float) (ks : List ℕ) → run .long ≡ 0 → printedOf (run .stage) run fs ks [] ≡ printed run line fs ks []
 unfolding printed cut
-no-end run line fs ks e = ap (λ n. listed (run .stage) run fs ks (cut 10 false (reverse (take n line)) [])) (sym e)
+no-end run line fs ks e = ap (λ n. printedOf (run .stage) run fs ks (cut 10 false (reverse (take n line)) [])) (sym e)

@@ -36,7 +36,7 @@ use Rattle.text.specs.Rows.{RowRead, floatsIn, row-listed, malformed-listed}
 use Rattle.reasons.specs.declared.Reason.{Reason}
 use Rattle.lines.specs.declared.Run.{Run}
 use Rattle.lines.specs.declared.Stage.the-variants as Stages
-use Rattle.lines.specs.Runs.{listedAt, listed, Room, Grown, Stands, LineRead, badRun, bad-read}
+use Rattle.lines.specs.Runs.{listedAt, printedOf, Room, Grown, Stands, LineRead, badRun, bad-read}
 use Rattle.lines.specs.Lines.{row-none}
 use Rattle.lines.specs.Heads.{floats-enough, links-enough, scratch-enough, numbers-enough}
 use Rattle.rules.specs.Rows.{inserted, insertedAll}
@@ -70,12 +70,12 @@ module _ (run : Run) (l : List ℕ) (fs : List Float) (ks : List ℕ) (before af
       subst (λ n. Says s t (take n after) l) (sym (sub-zero (run .head .dim)))
       (row-listed s t l before after (subst (RowRead (run .head .dim) (floatsIn l) before after) e w))
 
-  pub malformed-read : a ≡ Malformed → {q : Run} (why : Reason) → q ≡ badRun why run → LineRead (listed Stages.Rows run fs ks) l q fs ks
-  unfolding listed listedAt settingsOf
+  pub malformed-read : a ≡ Malformed → {q : Run} (why : Reason) → q ≡ badRun why run → LineRead (printedOf Stages.Rows run fs ks) l q fs ks
+  unfolding printedOf listedAt settingsOf
   malformed-read e why b =
       let s = settingsOf (run .head) in
       let t = lentTree (run .head) fs ks in
-      bad-read run why b l fs ks (listed Stages.Rows run fs ks) (λ ls.
+      bad-read run why b l fs ks (printedOf Stages.Rows run fs ks) (λ ls.
       row-none s (run .number) t l ls (malformed-listed s t l before after (subst (RowRead (run .head .dim) (floatsIn l) before after) e w)))
 
 module _ (run : Run) (l : Lent) (g : Grown (run .number) (run .head) (l .floats) (l .links)) {lines : ℕ}
@@ -127,10 +127,10 @@ module _ (run : Run) (l : Lent) (g : Grown (run .number) (run .head) (l .floats)
 
     -- a full tree refuses the row: the line is bad
     pub full-read : most + 1 < run .number → {q : Run} (why : Reason) → q ≡ badRun why run → (line : List ℕ) → Says s t x line
-        → (fs : List Float) (ks : List ℕ) → LineRead (listed Stages.Rows run (l .floats) (l .links)) line q fs ks
-    unfolding listed listedAt rowIn
+        → (fs : List Float) (ks : List ℕ) → LineRead (printedOf Stages.Rows run (l .floats) (l .links)) line q fs ks
+    unfolding printedOf listedAt rowIn
     full-read k why b line y fs ks =
-        bad-read run why b line fs ks (listed Stages.Rows run (l .floats) (l .links))
+        bad-read run why b line fs ks (printedOf Stages.Rows run (l .floats) (l .links))
         (λ ls. row-none s (run .number) t line ls (y ∙ ap (rowIn s t x) (full-wrong k)))
 
     -- any other takes it: the rules' tree is in the slices
@@ -171,9 +171,9 @@ module _ (run : Run) (l : Lent) (g : Grown (run .number) (run .head) (l .floats)
           ap f (y ∙ ap (rowIn s t x) (none-wrong k))
 
       pub row-read : (line : List ℕ) → Says s t x line
-          → LineRead (listed Stages.Rows run (l .floats) (l .links)) line (record { head = o .head; stage = Stages.Rows; number = run .number + 1; long = 0 })
+          → LineRead (printedOf Stages.Rows run (l .floats) (l .links)) line (record { head = o .head; stage = Stages.Rows; number = run .number + 1; long = 0 })
           (o .lent .floats) (o .lent .links)
-      unfolding Stands listed listedAt
+      unfolding Stands printedOf listedAt
       row-read line y = record {
         none-left = refl;
         stands = grown-next;
@@ -186,4 +186,4 @@ module _ (run : Run) (l : Lent) (g : Grown (run .number) (run .head) (l .floats)
 -- whatever line says the row x, it is read
 pub record Inserts (run : Run) (fs : List Float) (ks : List ℕ) (x : List Float) (r : Run) (gs : List Float) (js : List ℕ) : Type 0 where
   pub reads : (line : List ℕ) → Says (settingsOf (run .head)) (lentTree (run .head) fs ks) x line
-      → LineRead (listed Stages.Rows run fs ks) line r gs js
+      → LineRead (printedOf Stages.Rows run fs ks) line r gs js

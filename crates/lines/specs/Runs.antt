@@ -28,12 +28,12 @@ listedAt Stages.First n h t ls = linesListed ls
 listedAt Stages.Rows n h t ls = rowsListed (settingsOf h) n ls t
 listedAt (Stages.Bad why) n h t ls = badLine n
 
-unfoldable pub listed : Stage → Run → List Float → List ℕ → List (List ℕ) → List ℕ
-listed stage r fs ks ls = listedAt stage (r .number) (r .head) (lentTree (r .head) fs ks) ls
+unfoldable pub printedOf : Stage → Run → List Float → List ℕ → List (List ℕ) → List ℕ
+printedOf stage r fs ks ls = listedAt stage (r .number) (r .head) (lentTree (r .head) fs ks) ls
 
 -- if the bytes `rest` are left, behind those that stand in the line
 unfoldable pub printed : Run → List ℕ → List Float → List ℕ → List ℕ → List ℕ
-printed r line fs ks rest = listed (r .stage) r fs ks (cut 10 false (reverse (take (r .long) line)) rest)
+printed r line fs ks rest = printedOf (r .stage) r fs ks (cut 10 false (reverse (take (r .long) line)) rest)
 
 -- what prints f, having read the bytes bs, prints g
 pub record Reads (f : List ℕ → List ℕ) (bs : List ℕ) (g : List ℕ → List ℕ) : Type 0 where
@@ -107,12 +107,12 @@ pub record Reading (r : Run) (fs : List Float) (ks : List ℕ) : Type 0 where
 pub record LineRead (before : List (List ℕ) → List ℕ) (l : List ℕ) (r : Run) (fs : List Float) (ks : List ℕ) : Type 0 where
   pub none-left : r .long ≡ 0
   pub stands : Stands (r .stage) r fs ks
-  pub reads : (ls : List (List ℕ)) → listed (r .stage) r fs ks ls ≡ before (l ∷ ls)
+  pub reads : (ls : List (List ℕ)) → printedOf (r .stage) r fs ks ls ≡ before (l ∷ ls)
 
 -- the run r has no line left, and what is printed is bs: a report or a bad line, as its stage says
 pub record Ended (r : Run) (bs : List ℕ) (fs : List Float) (ks : List ℕ) : Type 0 where
   pub stands : Stands (r .stage) r fs ks
-  pub lists : listed (r .stage) r fs ks [] ≡ bs
+  pub lists : printedOf (r .stage) r fs ks [] ≡ bs
 
 -- a run that has read nothing prints the listing of what follows
 pub record Begun (r : Run) : Type 0 where
@@ -120,7 +120,7 @@ pub record Begun (r : Run) : Type 0 where
   pub lists : (line : List ℕ) (fs : List Float) (ks : List ℕ) → Reads rowlist [] (printed r line fs ks)
 
 pub begun : (h : Head) → Begun (record { head = h; stage = Stages.First; number = 1; long = 0 })
-unfolding Stands printed listed listedAt rowlist linesOf
+unfolding Stands printed printedOf listedAt rowlist linesOf
 begun h = record { reading = (λ fs ks. record { short = omega arith; stands = refl }); lists = (λ line fs ks. record { then = λ rest. refl }) }
 
 -- ---- the line that is being read is bad
@@ -148,7 +148,7 @@ bad-lists (Stages.Bad first) why n h t ls = refl
 
 module _ (r : Run) {q : Run} (why : Reason) (e : q ≡ badRun why r) (l : List ℕ) (fs : List Float) (ks : List ℕ) where
   pub bad-read : (before : List (List ℕ) → List ℕ) → ((ls : List (List ℕ)) → before (l ∷ ls) ≡ badLine (r .number)) → LineRead before l q fs ks
-  unfolding badRun listed
+  unfolding badRun printedOf
   bad-read before h =
       subst (λ (q : Run). LineRead before l q fs ks) (sym e) (record {
         none-left = refl;
@@ -157,20 +157,20 @@ module _ (r : Run) {q : Run} (why : Reason) (e : q ≡ badRun why r) (l : List �
       })
 
   -- so is every line behind a bad one
-  pub still-bad : {first : Reason} → r .stage ≡ Stages.Bad first → LineRead (listed (r .stage) r fs ks) l q fs ks
-  unfolding listed listedAt
-  still-bad h = bad-read (listed (r .stage) r fs ks) (λ ls. ap (λ st. listedAt st (r .number) (r .head) (lentTree (r .head) fs ks) (l ∷ ls)) h)
+  pub still-bad : {first : Reason} → r .stage ≡ Stages.Bad first → LineRead (printedOf (r .stage) r fs ks) l q fs ks
+  unfolding printedOf listedAt
+  still-bad h = bad-read (printedOf (r .stage) r fs ks) (λ ls. ap (λ st. listedAt st (r .number) (r .head) (lentTree (r .head) fs ks) (l ∷ ls)) h)
 
 -- a line as its stage reads it
 module _ (r : Run) (st : Stage) (e : r .stage ≡ st) (fs : List Float) (ks : List ℕ) where
   pub stage-stands : Stands (r .stage) r fs ks → Stands st r fs ks
   stage-stands k = subst (λ (st : Stage). Stands st r fs ks) e k
 
-  pub stage-read : (line : List ℕ) {q : Run} {gs : List Float} {js : List ℕ} → LineRead (listed st r fs ks) (take (r .long - 0) line) q gs js
-      → LineRead (listed (r .stage) r fs ks) (take (r .long) line) q gs js
+  pub stage-read : (line : List ℕ) {q : Run} {gs : List Float} {js : List ℕ} → LineRead (printedOf st r fs ks) (take (r .long - 0) line) q gs js
+      → LineRead (printedOf (r .stage) r fs ks) (take (r .long) line) q gs js
   stage-read line {q} {gs} {js} w =
-      subst (λ (st : Stage). LineRead (listed st r fs ks) (take (r .long) line) q gs js) (sym e)
-      (subst (λ n. LineRead (listed st r fs ks) (take n line) q gs js) (sub-zero (r .long)) w)
+      subst (λ (st : Stage). LineRead (printedOf st r fs ks) (take (r .long) line) q gs js) (sym e)
+      (subst (λ n. LineRead (printedOf st r fs ks) (take n line) q gs js) (sub-zero (r .long)) w)
 
 pub line-reading : {before : List (List ℕ) → List ℕ} {l : List ℕ} {r : Run} {fs : List Float} {ks : List ℕ} → LineRead before l r fs ks → Reading r fs ks
 line-reading w = record { short = (let e = w .none-left in omega arith); stands = w .stands }

@@ -4,7 +4,7 @@ ghost use mathlib.Core.List.{[], _∷_};
 ghost use Prim.Native.Nat.{_+_, _-_, _≤_, _<_};
 ghost use lib.ListN.{length, take};
 ghost use Rattle.lines.specs.declared.Stage.the-variants as Stages;
-ghost use Rattle.lines.specs.Runs.{Room, Stands, Reading, LineRead, listed, printed, Reads, badStage, badRun};
+ghost use Rattle.lines.specs.Runs.{Room, Stands, Reading, LineRead, printedOf, printed, Reads, badStage, badRun};
 ghost use Rattle.lines.specs.Lines.{Pushed, Copied};
 ghost use Rattle.lines.specs.Rows.{Inserts};
 use fronts::create::create;
@@ -118,7 +118,7 @@ fn copy(run: Run, bytes: &[u8], line: &mut [u8]) -> Run
 // Line 1: the head that it sets, and an empty tree.
 fn read_first(run: Run, bytes: &[u8], floats: &mut [f64], links: &mut [u32]) -> Run
     requires { ⌜ (5950 ≤ length (now floats)) × (6175 ≤ length (now links)) × Stands Stages.First run (now floats) (now links) ⌝ }
-    ensures { λ r. ⌜ LineRead (listed Stages.First run (now (floats .entry)) (now (links .entry))) (now (bytes .entry)) r
+    ensures { λ r. ⌜ LineRead (printedOf Stages.First run (now (floats .entry)) (now (links .entry))) (now (bytes .entry)) r
         (now (floats .exit)) (now (links .exit)) ⌝ }
 {
     let First::Head(h) = first_line(bytes) else {
@@ -181,7 +181,7 @@ fn read_row(
 ) -> Run
     requires { ⌜ Room 200 (length (now floats)) (length (now links)) (length (now scratch)) (length (now numbers)) ⌝ }
     requires { ⌜ Stands Stages.Rows run (now floats) (now links) ⌝ }
-    ensures { λ r. ⌜ LineRead (listed Stages.Rows run (now (floats .entry)) (now (links .entry))) (now (bytes .entry)) r
+    ensures { λ r. ⌜ LineRead (printedOf Stages.Rows run (now (floats .entry)) (now (links .entry))) (now (bytes .entry)) r
         (now (floats .exit)) (now (links .exit)) ⌝ }
 {
     let mut row = [0.0; 8];
@@ -204,7 +204,7 @@ pub fn end_line(
 ) -> Run
     requires { ⌜ Room (length (now line)) (length (now floats)) (length (now links)) (length (now scratch)) (length (now numbers)) ⌝ }
     requires { ⌜ Reading run (now floats) (now links) ⌝ }
-    ensures { λ r. ⌜ LineRead (listed (run .stage) run (now (floats .entry)) (now (links .entry))) (take (run .long) (now (line .entry))) r
+    ensures { λ r. ⌜ LineRead (printedOf (run .stage) run (now (floats .entry)) (now (links .entry))) (take (run .long) (now (line .entry))) r
         (now (floats .exit)) (now (links .exit)) ⌝ }
 {
     let long = run.long;

@@ -22,7 +22,7 @@ use Rattle.reasons.specs.declared.Reason.{Reason}
 use Rattle.lines.specs.declared.Stage.{Stage}
 use Rattle.lines.specs.declared.Stage.the-variants as Stages
 use Rattle.lines.specs.declared.Run.{Run}
-use Rattle.lines.specs.Runs.{listedAt, listed, Grown, Stands, stage-stands}
+use Rattle.lines.specs.Runs.{listedAt, printedOf, Grown, Stands, stage-stands}
 use Rattle.lines.specs.Heads.{floats-enough}
 use Rattle.lines.specs.Rows.{grown-passes, grown-total, grown-few}
 use Rattle.counting.specs.Tests.{every-at}
@@ -52,21 +52,21 @@ reportable {n} {h} {fs} {ks} g room =
 -- ---- what is printed at the end, stage by stage
 
 module _ (r : Run) (fs : List Float) (ks : List ℕ) where
-  at-stage : (st : Stage) → r .stage ≡ st → listed st r fs ks [] ≡ listed (r .stage) r fs ks []
-  at-stage st e = ap (λ (q : Stage). listed q r fs ks []) (sym e)
+  at-stage : (st : Stage) → r .stage ≡ st → printedOf st r fs ks [] ≡ printedOf (r .stage) r fs ks []
+  at-stage st e = ap (λ (q : Stage). printedOf q r fs ks []) (sym e)
 
   pub rows-stand : r .stage ≡ Stages.Rows → Stands (r .stage) r fs ks → Grown (r .number) (r .head) fs ks
   unfolding Stands
   rows-stand e k = stage-stands r Stages.Rows e fs ks k
 
-  pub rows-end : r .stage ≡ Stages.Rows → report (settingsOf (r .head)) (lentTree (r .head) fs ks) ≡ listed (r .stage) r fs ks []
-  unfolding listed listedAt rowsListed
+  pub rows-end : r .stage ≡ Stages.Rows → report (settingsOf (r .head)) (lentTree (r .head) fs ks) ≡ printedOf (r .stage) r fs ks []
+  unfolding printedOf listedAt rowsListed
   rows-end e = at-stage Stages.Rows e
 
-  pub first-end : r .stage ≡ Stages.First → Stands (r .stage) r fs ks → badLine (r .number) ≡ listed (r .stage) r fs ks []
-  unfolding Stands listed listedAt linesListed
+  pub first-end : r .stage ≡ Stages.First → Stands (r .stage) r fs ks → badLine (r .number) ≡ printedOf (r .stage) r fs ks []
+  unfolding Stands printedOf listedAt linesListed
   first-end e k = ap badLine (stage-stands r Stages.First e fs ks k) ∙ at-stage Stages.First e
 
-  pub bad-end : {why : Reason} → r .stage ≡ Stages.Bad why → badLine (r .number) ≡ listed (r .stage) r fs ks []
-  unfolding listed listedAt
+  pub bad-end : {why : Reason} → r .stage ≡ Stages.Bad why → badLine (r .number) ≡ printedOf (r .stage) r fs ks []
+  unfolding printedOf listedAt
   bad-end {why} e = at-stage (Stages.Bad why) e

@@ -4,7 +4,7 @@ ghost use mathlib.Core.List.{[]};
 ghost use Prim.Native.Nat.{_≤_};
 ghost use lib.ListN.{length};
 ghost use Rattle.reports.specs.Lines.{page, Wrote};
-ghost use Rattle.lines.specs.Runs.{Room, Stands, Reading, Ended, listed, printed};
+ghost use Rattle.lines.specs.Runs.{Room, Stands, Reading, Ended, printedOf, printed};
 use lines::Run;
 use lines::Stage;
 use reports::write_bad;
@@ -23,7 +23,7 @@ fn last_line(
     requires { ⌜ Reading run (now floats) (now links) ⌝ }
     ensures { λ r. ⌜ Stands (r .stage) r (now (floats .exit)) (now (links .exit)) ⌝ }
     ensures { λ r. ⌜
-        listed (r .stage) r (now (floats .exit)) (now (links .exit)) []
+        printedOf (r .stage) r (now (floats .exit)) (now (links .exit)) []
         ≡ printed run (now (line .entry)) (now (floats .entry)) (now (links .entry)) [] ⌝ }
 {
     if run.long == 0 {
@@ -35,7 +35,7 @@ fn last_line(
 // What is printed where no line is left.
 fn print(run: Run, floats: &[f64], links: &[u32], out: &mut [u8]) -> usize
     requires { ⌜ (5950 ≤ length (now floats)) × (page ≤ length (now out)) × Stands (run .stage) run (now floats) (now links) ⌝ }
-    ensures { λ r. ⌜ Wrote 0 (listed (run .stage) run (now (floats .entry)) (now (links .entry)) []) (now (out .entry)) (now (out .exit)) r ⌝ }
+    ensures { λ r. ⌜ Wrote 0 (printedOf (run .stage) run (now (floats .entry)) (now (links .entry)) []) (now (out .entry)) (now (out .exit)) r ⌝ }
 {
     let stage = run.stage;
     match stage {

@@ -28,8 +28,8 @@ use Rattle.counting.specs.Tests.{every-at}
 -- ---- what the conditions give to the code after them
 
 -- condition 3: every list is within its cap and names what is there
-abbrev pub Listed : Settings → Counters → List ℕ → Type 0
-Listed s n ls = AnyFloats s n ls (λ t. every (listFits s t) (t .nodes) ≡ true)
+abbrev pub ListsFit : Settings → Counters → List ℕ → Type 0
+ListsFit s n ls = AnyFloats s n ls (λ t. every (listFits s t) (t .nodes) ≡ true)
 
 -- node i is no leaf
 abbrev pub Inner : Settings → Counters → List ℕ → ℕ → Type 0

@@ -16,7 +16,7 @@ use Rattle.counting.specs.Count.{same?, is, is-same, is-other}
 use Rattle.counting.specs.Sums.{over, occurs-over, sumTo}
 use Rattle.laws.specs.Invariant.Height.{sum-first}
 use Rattle.laws.specs.Check.Passing.{every-up}
-use Rattle.rules.specs.Tree.{rowsIn}
+use Rattle.rules.specs.Tree.{rowCount}
 
 -- ---- tests
 
@@ -128,7 +128,7 @@ over-places w (x ∷ l) = let a = over-places w l in let b = sum-first (λ k. w 
 pub occurs-places : (c : ℕ) (l : List ℕ) → occurs c l ≡ sumTo (λ k. is c (getD l k 0)) (length l)
 occurs-places c l = occurs-over c l ∙ over-places (is c) l
 
-pub total-places : (f : ℕ → Summary) (l : List ℕ) → totalOf (map f l) ≡ sumTo (λ k. rowsIn (f (getD l k 0))) (length l)
+pub total-places : (f : ℕ → Summary) (l : List ℕ) → totalOf (map f l) ≡ sumTo (λ k. rowCount (f (getD l k 0))) (length l)
 unfolding totalOf sumTo
 total-places f [] = refl
-total-places f (x ∷ l) = let a = total-places f l in let b = sum-first (λ k. rowsIn (f (getD (x ∷ l) k 0))) (length l) in omega arith
+total-places f (x ∷ l) = let a = total-places f l in let b = sum-first (λ k. rowCount (f (getD (x ∷ l) k 0))) (length l) in omega arith

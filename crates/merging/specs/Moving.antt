@@ -81,18 +81,18 @@ module _ {A : Type 0} where
 -- ---- the entries
 
 -- i entries of l have moved: those kept of them stand in front, and from i on nothing has changed
-pub record Moved (bs : List Bool) (l : List Summary) (i : ℕ) (m : List Summary) : Type 0 where
+pub record Shifted (bs : List Bool) (l : List Summary) (i : ℕ) (m : List Summary) : Type 0 where
   pub long : length m ≡ length l
   pub front : take (countUp (take i bs)) m ≡ keep (take i bs) l
   pub rest : (j : ℕ) → i ≤ j → getD m j blank ≡ getD l j blank
 
-moved-start : (bs : List Bool) (l : List Summary) → Moved bs l 0 l
+moved-start : (bs : List Bool) (l : List Summary) → Shifted bs l 0 l
 unfolding countUp
 moved-start bs l = record { long = refl; front = sym (keep-none l); rest = λ j h. refl }
 
-module _ (bs : List Bool) (l : List Summary) (i : ℕ) (m : List Summary) (g : Moved bs l i m) where
+module _ (bs : List Bool) (l : List Summary) (i : ℕ) (m : List Summary) (g : Shifted bs l i m) where
   moved-turn : length bs ≡ length l → i < length l → (b : Bool) → getD bs i false ≡ b
-      → Moved bs l (suc i) (cond b (changeAt (λ _. getD m i blank) (renumber bs i) m) m)
+      → Shifted bs l (suc i) (cond b (changeAt (λ _. getD m i blank) (renumber bs i) m) m)
   unfolding renumber
   moved-turn e h true z =
       let c = countUp (take i bs) in
@@ -127,7 +127,7 @@ entries-taken s n gs ls k h = rw (table-take (λ i. summaryIn s (slotAt s gs (no
 module _ (s : Settings) (n : Counters) (bs : List Bool) (long : length bs ≡ n .entries) (fs : List Float) where
   -- i entries have moved, and nothing but entries has changed
   pub record Moves (i : ℕ) (gs : List Float) : Type 0 where
-    pub entries : Moved bs (treeOf s n fs [] .entries) i (treeOf s n gs [] .entries)
+    pub entries : Shifted bs (treeOf s n fs [] .entries) i (treeOf s n gs [] .entries)
     pub tree : OnlyEntries s n fs gs
 
   pub moves-start : Moves 0 fs
@@ -136,7 +136,7 @@ module _ (s : Settings) (n : Counters) (bs : List Bool) (long : length bs ≡ n 
 
   module _ (i : ℕ) (gs : List Float) (g : Moves i gs) where
     moves-by : (f : List Summary → List Summary) (hs : List Float) → FloatsTo s n gs n hs (λ t. withEntries (f (t .entries)) t)
-        → Moved bs (treeOf s n fs [] .entries) (suc i) (f (treeOf s n gs [] .entries)) → Moves (i + 1) hs
+        → Shifted bs (treeOf s n fs [] .entries) (suc i) (f (treeOf s n gs [] .entries)) → Moves (i + 1) hs
     unfolding withEntries
     moves-by f hs to m =
         record {

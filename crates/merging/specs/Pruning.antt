@@ -14,7 +14,7 @@ use Rattle.head.specs.declared.Counters.{Counters}
 use Rattle.head.specs.Counting.{countEntries}
 use Rattle.head.specs.Sizes.{blockWidth}
 use Rattle.rules.specs.Lists.{changeAt, snoc, keep, countUp}
-use Rattle.rules.specs.Tree.{Node, Tree, blankNode, nodeAt, withNodes, withEntries, listing}
+use Rattle.rules.specs.Tree.{Node, Tree, blankNode, nodeAt, withNodes, withEntries, withList}
 use Rattle.rules.specs.Rebuild.{numberIf, keepNumbers, pruned, dropped}
 use Rattle.rules.specs.Slices.{nodeIn, slotAt, blockAt, treeOf}
 use Rattle.laws.specs.ForCode.{Framed}
@@ -22,7 +22,7 @@ use Rattle.arena.specs.Trees.{AnyFloats, FloatsTo, LinksTo, Links, ChildIn, Chi
 use Rattle.stretch.specs.Blocks.{list-in}
 use Rattle.arena.specs.Numbered.{block-at}
 use Rattle.stretch.specs.Stretches.{append-none}
-use Rattle.listed.specs.Framed.{frame-children}
+use Rattle.bounds.specs.Framed.{frame-children}
 use Rattle.merging.specs.Numbering.{Numbered, numberIn, numberOf, number-none, number-some}
 
 -- the numbers of every leaf's list name entries
@@ -120,20 +120,20 @@ module _ {A : Type 0} where
 
 module _ (bs : List Bool) (t : Tree) (i : ℕ) where
   pub pruned-inner : nodeAt t i .leaf ≡ false → t ≡ onNode (pruned bs) i t
-  unfolding onNode withNodes nodeAt pruned listing
+  unfolding onNode withNodes nodeAt pruned withList
   pruned-inner e =
       let m = getD (t .nodes) i blankNode in
       ap (λ ns. withNodes ns t)
       (sym (change-none i (t .nodes))
-      ∙ change-same (λ x. x) (pruned bs) i (t .nodes) blankNode (sym (ap (λ b. listing (cond b (keepNumbers bs (m .list)) (m .list)) m) e)))
+      ∙ change-same (λ x. x) (pruned bs) i (t .nodes) blankNode (sym (ap (λ b. withList (cond b (keepNumbers bs (m .list)) (m .list)) m) e)))
 
   pub pruned-leaf : (l : List ℕ) → nodeAt t i .leaf ≡ true → l ≡ keepNumbers bs (nodeAt t i .list)
-      → onNode (listing l) i t ≡ onNode (pruned bs) i t
+      → onNode (withList l) i t ≡ onNode (pruned bs) i t
   unfolding onNode nodeAt pruned
   pruned-leaf l e q =
       let m = getD (t .nodes) i blankNode in
-      ap (λ ns. withNodes ns t) (change-same (listing l) (pruned bs) i (t .nodes) blankNode
-      (ap (λ k. listing k m) q ∙ sym (ap (λ b. listing (cond b (keepNumbers bs (m .list)) (m .list)) m) e)))
+      ap (λ ns. withNodes ns t) (change-same (withList l) (pruned bs) i (t .nodes) blankNode
+      (ap (λ k. withList k m) q ∙ sym (ap (λ b. withList (cond b (keepNumbers bs (m .list)) (m .list)) m) e)))
 
 -- ---- all nodes
 

@@ -8,7 +8,7 @@ ghost use Rattle.rules.specs.Lists.{occurs};
 ghost use Rattle.rules.specs.Tree.{nodeAt};
 ghost use Rattle.rules.specs.Check.{leafLists, onceEach};
 ghost use Rattle.arena.specs.Trees.{AnyFloats, Links};
-ghost use Rattle.lists.specs.Lent.{Listed, Leaf, leafList};
+ghost use Rattle.lists.specs.Lent.{ListsFit, Leaf, leafList};
 ghost use Rattle.once.specs.Once.{noneTwice};
 ghost use Rattle.once.specs.Seen.{Marked, times};
 use crate::seen::Marks;
@@ -45,7 +45,7 @@ fn leaves_len(s: Settings, n: Counters, links: &[u32]) -> usize
 
 // The set with the list of leaf i in it, or that a number is there twice.
 fn list_marks(s: Settings, n: Counters, links: &[u32], i: usize, seen: Seen) -> Marks
-    requires { ⌜ Links s n (length (now links)) × Listed s n (now links) × (n .entries ≤ 256) × (i < n .nodes) × Leaf s n (now links) i ⌝ }
+    requires { ⌜ Links s n (length (now links)) × ListsFit s n (now links) × (n .entries ≤ 256) × (i < n .nodes) × Leaf s n (now links) i ⌝ }
     ensures { λ r. ⌜ AnyFloats s n (now (links .entry)) (λ t. Marked r (λ c. times seen c + occurs c (nodeAt t i .list))) ⌝ }
 {
     let len = links::list_len(s, n, links, i);
@@ -64,7 +64,7 @@ fn list_marks(s: Settings, n: Counters, links: &[u32], i: usize, seen: Seen) -> 
 
 // The set with the entries that node i lists in it, or that one is there twice.
 fn leaf_marks(s: Settings, n: Counters, links: &[u32], i: usize, seen: Seen) -> Marks
-    requires { ⌜ Links s n (length (now links)) × Listed s n (now links) × (n .entries ≤ 256) × (i < n .nodes) ⌝ }
+    requires { ⌜ Links s n (length (now links)) × ListsFit s n (now links) × (n .entries ≤ 256) × (i < n .nodes) ⌝ }
     ensures { λ r. ⌜ AnyFloats s n (now (links .entry)) (λ t. Marked r (λ c. times seen c + occurs c (leafList (nodeAt t i)))) ⌝ }
 {
     if links::is_leaf(s, n, links, i) {
@@ -76,7 +76,7 @@ fn leaf_marks(s: Settings, n: Counters, links: &[u32], i: usize, seen: Seen) -> 
 
 // Whether no entry stands twice in the leaf lists.
 fn none_twice(s: Settings, n: Counters, links: &[u32]) -> bool
-    requires { ⌜ Links s n (length (now links)) × Listed s n (now links) × (n .entries ≤ 256) ⌝ }
+    requires { ⌜ Links s n (length (now links)) × ListsFit s n (now links) × (n .entries ≤ 256) ⌝ }
     ensures { λ r. ⌜ AnyFloats s n (now (links .entry)) (λ t. r ≡ noneTwice (n .entries) (leafLists (t .nodes))) ⌝ }
 {
     let mut seen = crate::seen::none();
@@ -93,7 +93,7 @@ fn none_twice(s: Settings, n: Counters, links: &[u32]) -> bool
 
 // Whether each entry stands once in the leaf lists, and no other number.
 pub fn once_each(s: Settings, n: Counters, links: &[u32]) -> bool
-    requires { ⌜ Links s n (length (now links)) × Listed s n (now links) × (n .entries ≤ 256) ⌝ }
+    requires { ⌜ Links s n (length (now links)) × ListsFit s n (now links) × (n .entries ≤ 256) ⌝ }
     ensures { λ r. ⌜ AnyFloats s n (now (links .entry)) (λ t. r ≡ onceEach (length (t .entries)) (leafLists (t .nodes))) ⌝ }
 {
     if leaves_len(s, n, links) != n.entries {

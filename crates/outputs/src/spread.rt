@@ -6,7 +6,7 @@ ghost use lib.ListN.{length};
 ghost use Rattle.head.specs.Limits.{Sized};
 ghost use Rattle.feature.specs.Shape.{Shaped};
 ghost use Rattle.kernels.specs.Channels.{at};
-ghost use Rattle.rules.specs.Lists.{joined};
+ghost use Rattle.rules.specs.Lists.{concat};
 ghost use Rattle.rules.specs.Tree.{entryAt};
 ghost use Rattle.rules.specs.Calls.{fronted};
 ghost use Rattle.arena.specs.Trees.{AnyLinks, Floats};
@@ -46,7 +46,7 @@ fn write_one(s: Settings, n: Counters, floats: &[f64], i: usize, out: &mut [f64]
 pub fn write_spread(s: Settings, n: Counters, floats: &[f64], out: &mut [f64])
     requires { ⌜ Floats s n (length (now floats)) × (n .entries * s .dim ≤ length (now out)) ⌝ }
     ensures { λ _. ⌜ AnyLinks s n (now (floats .entry)) (λ t.
-        now (out .exit) ≡ fronted (joined (map (spreadOf (s .feature) (s .dim)) (t .entries))) (now (out .entry))) ⌝ }
+        now (out .exit) ≡ fronted (concat (map (spreadOf (s .feature) (s .dim)) (t .entries))) (now (out .entry))) ⌝ }
 {
     let mut i = 0;
     while i < n.entries {

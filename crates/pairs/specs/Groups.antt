@@ -20,8 +20,8 @@ use Rattle.rules.specs.Slices.{treeOf}
 use Rattle.rules.specs.Descent.{Best}
 use Rattle.arena.specs.Trees.{ChildrenIn}
 use Rattle.laws.specs.ForCode.{Framed}
-use Rattle.listed.specs.Sure.{node-listed}
-use Rattle.listed.specs.Framed.{frame-children}
+use Rattle.bounds.specs.Sure.{node-listed}
+use Rattle.bounds.specs.Framed.{frame-children}
 use Rattle.rules.specs.Pairs.{costOf, partner, pairOf, partners, siblings, allLeaves, beneath, cousins}
 
 append-none : {A : Type 0} (l : List A) → l ++ [] ≡ l

@@ -23,12 +23,12 @@ use Rattle.rules.specs.declared.Nearest.{Nearest}
 use Rattle.rules.specs.declared.Nearest.the-variants.{Entry, Nothing}
 use Rattle.rules.specs.declared.Verdict.the-variants.{Passes}
 use Rattle.rules.specs.Lists.{changeAt, snoc, occurs, rowsOf, upFrom}
-use Rattle.rules.specs.Tree.{push, merge, distTo, Tree, nodeAt, entryAt, rowsIn}
+use Rattle.rules.specs.Tree.{push, merge, distTo, Tree, nodeAt, entryAt, rowCount}
 use Rattle.rules.specs.Descent.{searched, leafFor, alongPath}
 use Rattle.rules.specs.Insert.{grown, absorbs, rowItem, Item}
 use Rattle.rules.specs.Reinsert.{collected}
 use Rattle.rules.specs.Check.{checked, leafLists, Binary64}
-use Rattle.rules.specs.Calls.{Lent, Left, Written, Listed, lentTree, created, rowInserted, batchInserted, batchRefitted, routed, spreadWritten, validated, listed}
+use Rattle.rules.specs.Calls.{Lent, Left, Written, Shown, lentTree, created, rowInserted, batchInserted, batchRefitted, routed, spreadWritten, validated, entriesShown}
 use Rattle.counting.specs.Count.{is}
 use Rattle.rules.specs.Route.{greedy, Route}
 use Rattle.rules.specs.Rows.{inserted}
@@ -44,14 +44,14 @@ pub data Origin : Type 0 where
 -- a lent tree's rows: for each entry as many as it weighs
 unfoldable pub originsOf : List Summary → List Origin
 originsOf [] = []
-originsOf (e ∷ es) = map (behind e) (upFrom (rowsIn e) 0) ++ originsOf es
+originsOf (e ∷ es) = map (behind e) (upFrom (rowCount e) 0) ++ originsOf es
 
 -- ---- whose each row is: an account beside the tree, the owner of each row in order of arrival, moved by the numbers that each step uses
 
 -- of a lent tree: each of its rows is its entry's, from number i on
 unfoldable pub standing : ℕ → List Summary → List ℕ
 standing i [] = []
-standing i (e ∷ es) = replicate (rowsIn e) i ++ standing (suc i) es
+standing i (e ∷ es) = replicate (rowCount e) i ++ standing (suc i) es
 
 -- the entry that takes an item: the nearest one of its leaf that absorbs it, or a new one
 unfoldable pub takerOf : Item → Nearest → Tree → ℕ
@@ -103,7 +103,7 @@ pub data Reading (h : Head) (fs : List Float) (ls : List ℕ) : Type 0 where
   routing : (xs : List Float) (out : List ℕ) (o : Written ℕ) → o ≡ routed h fs ls xs out → Reading h fs ls
   spread : (out : List Float) (o : Written Float) → o ≡ spreadWritten h fs ls out → Reading h fs ls
   validation : (o : Answer) → o ≡ validated h fs ls → Reading h fs ls
-  listing : (o : Listed) → o ≡ listed h fs ls → Reading h fs ls
+  listing : (o : Shown) → o ≡ entriesShown h fs ls → Reading h fs ls
 
 -- From a head and buffers that `validate` accepts through any public calls: the head and the two buffers of the tree, the rows since the last effective refit
 -- with that refit's own, or since the start with those of the tree that was lent, and whose each of these rows is.
@@ -153,8 +153,8 @@ originAt ys i = getD ys i (behind blank 0)
 pub data Made (s : Settings) (ys : List Origin) : Summary → (ℕ → ℕ) → Type 0 where
   empty : Made s ys blank (λ _. 0)
   taking : {e : Summary} {p : ℕ → ℕ} (i : ℕ) (x : List Float) → originAt ys i ≡ called x → Made s ys e p → Made s ys (push s x e) (λ j. is j i + p j)
-  lent : (e : Summary) (i : ℕ) → 0 < rowsIn e → ((k : ℕ) → k < rowsIn e → originAt ys (i + k) ≡ behind e k)
-      → Made s ys e (λ j. occurs j (upFrom (rowsIn e) i))
+  lent : (e : Summary) (i : ℕ) → 0 < rowCount e → ((k : ℕ) → k < rowCount e → originAt ys (i + k) ≡ behind e k)
+      → Made s ys e (λ j. occurs j (upFrom (rowCount e) i))
   joining : {e f : Summary} {p q : ℕ → ℕ} → Made s ys e p → Made s ys f q → Made s ys (merge s e f) (λ j. p j + q j)
   -- the same counts, said otherwise
   alike : {e : Summary} {p q : ℕ → ℕ} → Made s ys e p → ((j : ℕ) → q j ≡ p j) → Made s ys e q

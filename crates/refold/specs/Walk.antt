@@ -9,7 +9,7 @@ use native.Mathlib.Omega.{arith}
 use lib.ListN.{length, getD, take}
 use lib.Seq.{take-all}
 use Rattle.head.specs.declared.Settings.{Settings}
-use Rattle.rules.specs.Lists.{occurs, joined}
+use Rattle.rules.specs.Lists.{occurs, concat}
 use Rattle.rules.specs.Tree.{Tree, nodeAt}
 use Rattle.rules.specs.Refold.{preorder}
 use Rattle.counting.specs.Sums.{over, over-append, over-in, occurs-only, occurs-here, occurs-later, occurs-append, sumTo, sum-ones}
@@ -39,7 +39,7 @@ pub data Backward (t : Tree) : ℕ → List ℕ → Type 0 where
 -- node c and all beneath it in preorder, r levels down
 unfoldable pub orderOf : Tree → ℕ → ℕ → List ℕ
 orderOf t zero c = c ∷ []
-orderOf t (suc r) c = c ∷ elim (nodeAt t c .leaf) [ true ↦ [] | false ↦ joined (map (orderOf t r) (nodeAt t c .list)) ]
+orderOf t (suc r) c = c ∷ elim (nodeAt t c .leaf) [ true ↦ [] | false ↦ concat (map (orderOf t r) (nodeAt t c .list)) ]
 
 -- ---- lists turned over
 
@@ -61,8 +61,8 @@ module _ {A : Type 0} where
   turned-cons x a rs = ap (λ l. l ++ rs) (aux-is a (x ∷ [])) ∙ append-assoc (reverse a) (x ∷ []) rs
 
   joined-more : (f : ℕ → List A) (l : List ℕ) (j : ℕ) → j < length l
-      → joined (map f (take (suc j) l)) ≡ joined (map f (take j l)) ++ f (getD l j 0)
-  unfolding joined
+      → concat (map f (take (suc j) l)) ≡ concat (map f (take j l)) ++ f (getD l j 0)
+  unfolding concat
   joined-more f [] j h = absurd (omega arith)
   joined-more f (x ∷ l) zero h = append-none (f x)
     where
@@ -70,17 +70,17 @@ module _ {A : Type 0} where
       append-none [] = refl
       append-none (y ∷ l) = ap (λ m. y ∷ m) (append-none l)
   joined-more f (x ∷ l) (suc j) h =
-      ap (λ m. f x ++ m) (joined-more f l j (omega arith)) ∙ sym (append-assoc (f x) (joined (map f (take j l))) (f (getD l j 0)))
+      ap (λ m. f x ++ m) (joined-more f l j (omega arith)) ∙ sym (append-assoc (f x) (concat (map f (take j l))) (f (getD l j 0)))
 
-  joined-same : (f g : ℕ → List A) (l : List ℕ) → ((c : ℕ) → 0 < occurs c l → f c ≡ g c) → joined (map f l) ≡ joined (map g l)
-  unfolding joined
+  joined-same : (f g : ℕ → List A) (l : List ℕ) → ((c : ℕ) → 0 < occurs c l → f c ≡ g c) → concat (map f l) ≡ concat (map g l)
+  unfolding concat
   joined-same f g [] h = refl
   joined-same f g (x ∷ l) h = ap₂ (λ a b. a ++ b) (h x (occurs-here x l)) (joined-same f g l (λ c o. h c (occurs-later c x l o)))
 
-  joined-append : (f : ℕ → List A) (l m : List ℕ) → joined (map f (l ++ m)) ≡ joined (map f l) ++ joined (map f m)
-  unfolding joined
+  joined-append : (f : ℕ → List A) (l m : List ℕ) → concat (map f (l ++ m)) ≡ concat (map f l) ++ concat (map f m)
+  unfolding concat
   joined-append f [] m = refl
-  joined-append f (x ∷ l) m = ap (λ k. f x ++ k) (joined-append f l m) ∙ sym (append-assoc (f x) (joined (map f l)) (joined (map f m)))
+  joined-append f (x ∷ l) m = ap (λ k. f x ++ k) (joined-append f l m) ∙ sym (append-assoc (f x) (concat (map f l)) (concat (map f m)))
 
 -- ---- the order of a standing tree
 
@@ -118,7 +118,7 @@ module _ (s : Settings) (t : Tree) (u : Standing s t) where
       go zero = refl
       go (suc r) = rw (e, orderOf)
 
-  order-inner : (c : ℕ) → c < N → nodeAt t c .leaf ≡ false → order c ≡ c ∷ joined (map order (nodeAt t c .list))
+  order-inner : (c : ℕ) → c < N → nodeAt t c .leaf ≡ false → order c ≡ c ∷ concat (map order (nodeAt t c .list))
   unfolding orderOf
   order-inner c l e =
       let (k, o, q, b) = first-kid c l e in
@@ -137,8 +137,8 @@ module _ (s : Settings) (t : Tree) (u : Standing s t) where
       go (inl e) = let a = under-leaf frame (λ _. 1) m l e in omega arith
       go (inr e) = let a = under-inner frame (λ _. 1) m l e in omega arith
 
-  preorder-is : (k : ℕ) (ns : List ℕ) → ((m : ℕ) → 0 < occurs m ns → m < N) → over size ns ≤ k → preorder t k ns ≡ joined (map order ns)
-  unfolding preorder over joined
+  preorder-is : (k : ℕ) (ns : List ℕ) → ((m : ℕ) → 0 < occurs m ns → m < N) → over size ns ≤ k → preorder t k ns ≡ concat (map order ns)
+  unfolding preorder over concat
   preorder-is zero [] h b = refl
   preorder-is zero (m ∷ ns) h b = let q = some-size m (h m (occurs-here m ns)) in absurd (omega arith)
   preorder-is (suc k) [] h b = refl
@@ -151,16 +151,16 @@ module _ (s : Settings) (t : Tree) (u : Standing s t) where
       rest c o = h c (occurs-later c m ns o)
 
       go : (b : Bool) → nodeAt t m .leaf ≡ b
-          → ((ns : List ℕ) → ((m : ℕ) → 0 < occurs m ns → m < N) → over size ns ≤ k → preorder t k ns ≡ joined (map order ns))
-          → m ∷ preorder t k (cond b [] (nodeAt t m .list) ++ ns) ≡ order m ++ joined (map order ns)
+          → ((ns : List ℕ) → ((m : ℕ) → 0 < occurs m ns → m < N) → over size ns ≤ k → preorder t k ns ≡ concat (map order ns))
+          → m ∷ preorder t k (cond b [] (nodeAt t m .list) ++ ns) ≡ order m ++ concat (map order ns)
       go true e ih =
           let a = under-leaf frame (λ _. 1) m here e in
-          ap (λ l. m ∷ l) (ih ns rest (omega arith)) ∙ ap (λ l. l ++ joined (map order ns)) (sym (order-leaf m e))
+          ap (λ l. m ∷ l) (ih ns rest (omega arith)) ∙ ap (λ l. l ++ concat (map order ns)) (sym (order-leaf m e))
       go false e ih =
           let a = under-inner frame (λ _. 1) m here e in
           let f = over-append size (nodeAt t m .list) ns in
           ap (λ l. m ∷ l) (ih (nodeAt t m .list ++ ns) (λ c o. by c (lt? 0 (occurs c (nodeAt t m .list))) o) (omega arith) ∙ joined-append order (nodeAt t m .list) ns)
-          ∙ ap (λ l. l ++ joined (map order ns)) (sym (order-inner m here e))
+          ∙ ap (λ l. l ++ concat (map order ns)) (sym (order-inner m here e))
         where
           by : (c : ℕ) → (0 < occurs c (nodeAt t m .list)) ⊎ (occurs c (nodeAt t m .list) ≤ 0) → 0 < occurs c (nodeAt t m .list ++ ns) → c < N
           by c (inl q) o = kid-below frame m c here e q
@@ -170,7 +170,7 @@ module _ (s : Settings) (t : Tree) (u : Standing s t) where
   preorder-root =
       let all : size (t .root) ≡ N = under-root frame (λ _. 1) ∙ sum-ones N in
       let one : over size (t .root ∷ []) ≡ size (t .root) + 0 = unfold over in refl in
-      preorder-is N (t .root ∷ []) (λ m o. subst (λ z. z < N) (sym (occurs-only m (t .root) o)) (frame .root-in)) (omega arith) ∙ (unfold joined in refl)
+      preorder-is N (t .root ∷ []) (λ m o. subst (λ z. z < N) (sym (occurs-only m (t .root) o)) (frame .root-in)) (omega arith) ∙ (unfold concat in refl)
 
   -- ---- the last beneath a node
 
@@ -251,17 +251,17 @@ module _ (s : Settings) (t : Tree) (u : Standing s t) where
 
   -- through the first j of an inner node's list
   through : (c : ℕ) → c < N → nodeAt t c .leaf ≡ false → ((k : ℕ) → 0 < occurs k (nodeAt t c .list) → Goes k) → (rs : List ℕ) → Backward t c (c ∷ rs)
-      → (j : ℕ) → j ≤ length (nodeAt t c .list) → Backward t (nodeBefore t c j) (reverse (joined (map order (take j (nodeAt t c .list)))) ++ (c ∷ rs))
-  unfolding nodeBefore joined
+      → (j : ℕ) → j ≤ length (nodeAt t c .list) → Backward t (nodeBefore t c j) (reverse (concat (map order (take j (nodeAt t c .list)))) ++ (c ∷ rs))
+  unfolding nodeBefore concat
   through c l e ih rs b zero h = b
   through c l e ih rs b (suc j) h =
       let list = nodeAt t c .list in
       let k = getD list j 0 in
       let o = get-occurs list j 0 (omega arith) in
-      let before = reverse (joined (map order (take j list))) ++ (c ∷ rs) in
+      let before = reverse (concat (map order (take j list))) ++ (c ∷ rs) in
       let here : Backward t k (k ∷ before) = step before c j (frame .kid c k l e o .0) (omega arith) refl l e (through c l e ih rs b j (omega arith)) in
-      let lists : reverse (order k) ++ before ≡ reverse (joined (map order (take (suc j) list))) ++ (c ∷ rs) =
-      sym (ap (λ m. reverse m ++ (c ∷ rs)) (joined-more order list j (omega arith)) ∙ turned-append (joined (map order (take j list))) (order k) (c ∷ rs)) in
+      let lists : reverse (order k) ++ before ≡ reverse (concat (map order (take (suc j) list))) ++ (c ∷ rs) =
+      sym (ap (λ m. reverse m ++ (c ∷ rs)) (joined-more order list j (omega arith)) ∙ turned-append (concat (map order (take j list))) (order k) (c ∷ rs)) in
       subst (Backward t (lastOf k)) lists (ih k o before here)
 
   goes-by : (r c : ℕ) → R c < r → c < N → Goes c
@@ -276,9 +276,9 @@ module _ (s : Settings) (t : Tree) (u : Standing s t) where
           let list = nodeAt t c .list in
           let some = u .inners c l e in
           let all = through c l e (λ k o. ih k (let q = frame .kid c k l e o .1 in omega arith) (kid-below frame c k l e o)) rs b (length list) (omega arith) in
-          let lists : reverse (joined (map order (take (length list) list))) ++ (c ∷ rs) ≡ reverse (order c) ++ rs =
-          ap (λ m. reverse (joined (map order m)) ++ (c ∷ rs)) (take-all (length list) list (omega arith))
-          ∙ sym (ap (λ m. reverse m ++ rs) (order-inner c l e) ∙ turned-cons c (joined (map order list)) rs) in
+          let lists : reverse (concat (map order (take (length list) list))) ++ (c ∷ rs) ≡ reverse (order c) ++ rs =
+          ap (λ m. reverse (concat (map order m)) ++ (c ∷ rs)) (take-all (length list) list (omega arith))
+          ∙ sym (ap (λ m. reverse m ++ rs) (order-inner c l e) ∙ turned-cons c (concat (map order list)) rs) in
           subst (λ i. Backward t i (reverse (order c) ++ rs)) (sym (last-of c l e ∙ at-last (length list) some)) (subst (Backward t (nodeBefore t c (length list))) lists all)
         where
           at-last : (n : ℕ) → 0 < n → lastOf (getD (nodeAt t c .list) (n - 1) 0) ≡ nodeBefore t c n

@@ -21,11 +21,11 @@ use Rattle.validate.specs.Passing.{passing-floats, passing-counts, passing-tota
 use Rattle.binary64.specs.Whole.{most}
 use Rattle.rules.specs.Calls.{Lent, answerOf, roomRefusal, treeRefusal, insertFullRefusal, refitFullRefusal, lentTree, createRefusals, treeRefusals, changeRefusals, rowsAsked, batchAsked, refitAsked, batchRefusals, refitRefusals}
 use Rattle.rules.specs.RefusalLaws.{accepted-none, none-both}
-use Rattle.rules.specs.CallLaws.{Roomy, Readable, Ready, create-roomy, tree-readable, change-ready}
+use Rattle.rules.specs.CallLaws.{Granted, Readable, Ready, create-roomy, tree-readable, change-ready}
 
 module _ (h : Head) (fs : List Float) (ls : List ℕ) where
   -- 1 and 2
-  pub create-grants : answerOf (createRefusals h fs ls) ≡ Accepted → Roomy h fs ls
+  pub create-grants : answerOf (createRefusals h fs ls) ≡ Accepted → Granted h fs ls
   create-grants e = create-roomy h fs ls (accepted-none (createRefusals h fs ls) e)
 
   -- 1, 2 and 3

@@ -17,7 +17,7 @@ use Rattle.counting.specs.Sums.{over, over-append, length-over, occurs-append, 
 use Rattle.laws.specs.Invariant.Beneath.{kid-below}
 use Rattle.laws.specs.Invariant.Collected.{collect-sum, under-inner}
 use Rattle.laws.specs.ForCode.{Standing}
-use Rattle.listed.specs.Standing.{leavesUnder, oneLeaf, nodes-few, under-few}
+use Rattle.bounds.specs.Standing.{leavesUnder, oneLeaf, nodes-few, under-few}
 use Rattle.stretch.specs.Stretches.{append-none}
 use Rattle.scratch.specs.Slots.{append-map}
 

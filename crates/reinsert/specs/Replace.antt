@@ -12,7 +12,7 @@ use Rattle.head.specs.declared.Settings.{Settings}
 use Rattle.head.specs.Limits.{Sized}
 use Rattle.head.specs.Sizes.{entryCap, slotWidth}
 use Rattle.rules.specs.Lists.{table}
-use Rattle.rules.specs.Tree.{Tree, rowsIn}
+use Rattle.rules.specs.Tree.{Tree, rowCount}
 use Rattle.rules.specs.Slices.{summaryIn}
 use Rattle.rules.specs.Reinsert.{replaced, replacedAll}
 use Rattle.rules.specs.Check.{totalOf}
@@ -52,7 +52,7 @@ module _ (s : Settings) (t : Tree) (e : Summary) (es : List Summary) (g : Replac
       let room = g .room in
       let more : length (replaced s e t .entries) ≡ suc (length (t .entries)) = ap (λ l. length l) (place-entries s e t) ∙ snoc-length (t .entries) e in
       record {
-        total = g .total + rowsIn e;
+        total = g .total + rowCount e;
         holds = inr (replaced-holds s e t (g .total) (caps-of z) (g .holds) (g .rows .0) (g .rows .1) (omega arith));
         rows = g .rows .2;
         few = omega arith;

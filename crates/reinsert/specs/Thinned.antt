@@ -7,7 +7,7 @@ use native.Mathlib.Omega.{arith}
 use lib.ListN.{length, getD, length-map, List·getD-map}
 use Rattle.head.specs.declared.Settings.{Settings}
 use Rattle.head.specs.Sizes.{entryCap}
-use Rattle.rules.specs.Tree.{Tree, nodeAt, blankNode, withNodes, withEntries, onRunning, listing}
+use Rattle.rules.specs.Tree.{Tree, nodeAt, blankNode, withNodes, withEntries, onRunning, withList}
 use Rattle.rules.specs.Rebuild.{Merging, keepNumbers, pruned, dropped, withMerges, thinned}
 use Rattle.counting.specs.Sums.{sumTo, sum-same}
 use Rattle.laws.specs.Invariant.Sound.{Settled}
@@ -21,23 +21,23 @@ use Rattle.head.specs.Counting.{withMerged}
 -- u has the nodes of t, its leaves without the entries whose flag is down
 module _ (s : Settings) (t u : Tree) (bs : List Bool) (nodes : u .nodes ≡ map (pruned bs) (t .nodes)) (root : u .root ≡ t .root) where
   node-is : (k : ℕ) → nodeAt u k ≡ pruned bs (nodeAt t k)
-  unfolding nodeAt pruned listing keepNumbers filterMap blankNode
+  unfolding nodeAt pruned withList keepNumbers filterMap blankNode
   node-is k = ap (λ ns. getD ns k blankNode) nodes ∙ List·getD-map (pruned bs) (t .nodes) k blankNode
 
   nodes-is : length (u .nodes) ≡ length (t .nodes)
   nodes-is = ap length nodes ∙ length-map (t .nodes) (pruned bs)
 
   leaf-is : (k : ℕ) → nodeAt u k .leaf ≡ nodeAt t k .leaf
-  unfolding pruned listing
+  unfolding pruned withList
   leaf-is k = ap (λ n. n .leaf) (node-is k)
 
   root-is : nodeAt u (u .root) .parent ≡ nodeAt t (t .root) .parent
-  unfolding pruned listing
+  unfolding pruned withList
   root-is = ap (λ k. nodeAt u k .parent) root ∙ ap (λ n. n .parent) (node-is (t .root))
 
   -- only leaves lose entries
   inner-is : (k : ℕ) → nodeAt t k .leaf ≡ false → nodeAt u k .list ≡ nodeAt t k .list
-  unfolding pruned listing
+  unfolding pruned withList
   inner-is k f = ap (λ n. n .list) (node-is k) ∙ ap (λ b. cond b (keepNumbers bs (nodeAt t k .list)) (nodeAt t k .list)) f
 
   leaves-is : leafCount u ≡ leafCount t

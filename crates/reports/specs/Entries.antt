@@ -20,7 +20,7 @@ use Rattle.head.specs.declared.Settings.{Settings}
 use Rattle.head.specs.declared.Counters.{Counters}
 use Rattle.head.specs.Heads.{settingsOf}
 use Rattle.head.specs.Limits.{Sized}
-use Rattle.rules.specs.Tree.{Tree, entryAt, rowsIn}
+use Rattle.rules.specs.Tree.{Tree, entryAt, rowCount}
 use Rattle.rules.specs.Check.{totalOf}
 use Rattle.rules.specs.Calls.{lentTree}
 use Rattle.rules.specs.Slices.{treeOf}
@@ -51,15 +51,15 @@ pub record Reportable (h : Head) (total : ℕ) (fs : List Float) (ls : List ℕ)
 
 -- ---- the weight
 
-rows-told : (e : Summary) → isCount (e .weight) ≡ true → countOf (e .weight) ≡ Rows (rowsIn e)
-unfolding countOf told rowsIn
+rows-told : (e : Summary) → isCount (e .weight) ≡ true → countOf (e .weight) ≡ Rows (rowCount e)
+unfolding countOf told rowCount
 rows-told e h = ap (λ b. told b (toUnsigned 64 (e .weight))) h
 
 module _ (e : Summary) (h : isCount (e .weight) ≡ true) where
   pub rows-none : countOf (e .weight) ≡ NotWhole → ⊥
   rows-none k = let q = rows-told e h in let z : _≡_ {A = ℕ} 0 1 = cc in absurd (omega arith)
 
-  pub rows-are : (n : ℕ) → countOf (e .weight) ≡ Rows n → n ≡ rowsIn e
+  pub rows-are : (n : ℕ) → countOf (e .weight) ≡ Rows n → n ≡ rowCount e
   rows-are n k = let q = rows-told e h in cc
 
 -- ---- one line
@@ -110,11 +110,11 @@ module _ (s : Settings) (e : Summary) (f : EntryFits s e) where
       let b = deviations-short in
       omega arith
 
-  pub entry-is : (i : ℕ) → ((decimalOf i ++ tabbed (decimalOf (rowsIn e) ∷ [])) ++ tabbed (summaryFields s e)) ++ (10 ∷ []) ≡ entryLine s i e
+  pub entry-is : (i : ℕ) → ((decimalOf i ++ tabbed (decimalOf (rowCount e) ∷ [])) ++ tabbed (summaryFields s e)) ++ (10 ∷ []) ≡ entryLine s i e
   unfolding entryLine summaryFields
   entry-is i =
       let a = decimalOf i in
-      let gs = decimalOf (rowsIn e) ∷ [] in
+      let gs = decimalOf (rowCount e) ∷ [] in
       let fs = summaryFields s e in
       ap (λ l. l ++ (10 ∷ [])) (append-assoc a (tabbed gs) (tabbed fs) ∙ ap (λ l. a ++ l) (tabbed-both gs fs))
       ∙ append-assoc a (tabbed (gs ++ fs)) (10 ∷ []) ∙ line-is a (gs ++ fs)
@@ -122,11 +122,11 @@ module _ (s : Settings) (e : Summary) (f : EntryFits s e) where
   pub entry-short : (i : ℕ) → length (entryLine s i e) ≤ 314
   entry-short i =
       let q = ap length (sym (entry-is i)) in
-      let l₁ = length-append ((decimalOf i ++ tabbed (decimalOf (rowsIn e) ∷ [])) ++ tabbed (summaryFields s e)) (10 ∷ []) in
-      let l₂ = length-append (decimalOf i ++ tabbed (decimalOf (rowsIn e) ∷ [])) (tabbed (summaryFields s e)) in
-      let l₃ = length-append (decimalOf i) (tabbed (decimalOf (rowsIn e) ∷ [])) in
+      let l₁ = length-append ((decimalOf i ++ tabbed (decimalOf (rowCount e) ∷ [])) ++ tabbed (summaryFields s e)) (10 ∷ []) in
+      let l₂ = length-append (decimalOf i ++ tabbed (decimalOf (rowCount e) ∷ [])) (tabbed (summaryFields s e)) in
+      let l₃ = length-append (decimalOf i) (tabbed (decimalOf (rowCount e) ∷ [])) in
       let a = decimal-short i in
-      let b = tabbed-decimal (rowsIn e) in
+      let b = tabbed-decimal (rowCount e) in
       let c = summary-short in
       omega arith
 

@@ -8,7 +8,7 @@ ghost use Rattle.rules.specs.Slices.{treeOf};
 ghost use Rattle.rules.specs.Listing.{entryLine, entryLines};
 ghost use Rattle.reports.specs.Lines.{Wrote, tabbed};
 ghost use Rattle.reports.specs.Entries.{summaryFields, EntryFits, Entries};
-ghost use Rattle.rules.specs.Tree.{rowsIn};
+ghost use Rattle.rules.specs.Tree.{rowCount};
 use crate::fields;
 use arena::entries::summary;
 use binary64::Count;
@@ -20,7 +20,7 @@ use text::writing::write_decimal;
 // The rows that an entry stands for.
 fn rows_of(e: Summary) -> u64
     requires { ⌜ isCount (e .weight) ≡ true ⌝ }
-    ensures { λ r. ⌜ r ≡ rowsIn e ⌝ }
+    ensures { λ r. ⌜ r ≡ rowCount e ⌝ }
 {
     let Count::Rows(n) = binary64::count_of(e.weight) else {
         return 0;

@@ -17,7 +17,7 @@ use Rattle.laws.specs.Inserting.First.{Holding, leaf-of}
 use Rattle.laws.specs.Check.Both.{AtRest}
 use Rattle.laws.specs.ForCode.{Sure, sure-of}
 use Rattle.arena.specs.Trees.{ChildrenIn, count-nodes}
-use Rattle.listed.specs.Sure.{children-in}
+use Rattle.bounds.specs.Sure.{children-in}
 use Rattle.rules.specs.Route.{greedy}
 
 -- a tree that holds so many rows, and so has entries

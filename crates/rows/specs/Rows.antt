@@ -15,8 +15,8 @@ unfoldable pub rowOf : Settings → List Float → ℕ → List Float
 rowOf s xs k = take (s .dim) (drop (k * s .dim) xs)
 
 -- it is there, if so many rows are
-pub row-in : (s : Settings) (count k n : ℕ) → k < count → count * s .dim ≤ n → (k + 1) * s .dim ≤ n
-row-in s count k n h l = let below = mul-le-mul-right (s .dim) (let one : k + 1 ≤ count = omega arith in one) in omega arith
+pub row-there : (s : Settings) (count k n : ℕ) → k < count → count * s .dim ≤ n → (k + 1) * s .dim ≤ n
+row-there s count k n h l = let below = mul-le-mul-right (s .dim) (let one : k + 1 ≤ count = omega arith in one) in omega arith
 
 pub row-wide : (s : Settings) (xs : List Float) (k : ℕ) → (k + 1) * s .dim ≤ length xs → length (rowOf s xs k) ≡ s .dim
 unfolding rowOf

@@ -55,7 +55,7 @@ accepted-done (r ∷ rs) h l done e = let z : _≡_ {A = ℕ} 0 1 = cc in absurd
 -- ---- what passing every test says
 
 -- a head and two slices that 1 and 2 let through
-pub record Roomy (h : Head) (fs : List Float) (ls : List ℕ) : Type 0 where
+pub record Granted (h : Head) (fs : List Float) (ls : List ℕ) : Type 0 where
   pub sized : Sized (settingsOf h)
   pub floats-room : floatsNeeded (settingsOf h) ≤ length fs
   pub links-room : linksNeeded (settingsOf h) ≤ length ls
@@ -63,7 +63,7 @@ pub record Roomy (h : Head) (fs : List Float) (ls : List ℕ) : Type 0 where
 -- a reading call that 1, 2 and 3 let through
 pub record Readable (h : Head) (fs : List Float) (ls : List ℕ) : Type 0 where
   pub allows : allowed h ≡ true
-  pub roomy : Roomy h fs ls
+  pub roomy : Granted h fs ls
   pub passes : checked (settingsOf h) (lentTree h fs ls) ≡ Passes
 
 module _ (h : Head) (fs : List Float) (ls : List ℕ) where
@@ -71,7 +71,7 @@ module _ (h : Head) (fs : List Float) (ls : List ℕ) where
   unfolding createRefusals settingsRefusal
   create-allows e = unless-none (allowed h) R.Settings (none-both (settingsRefusal h) _ e .0)
 
-  pub create-roomy : createRefusals h fs ls ≡ [] → Roomy h fs ls
+  pub create-roomy : createRefusals h fs ls ≡ [] → Granted h fs ls
   unfolding createRefusals
   create-roomy e =
       let s = settingsOf h in

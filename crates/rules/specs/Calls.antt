@@ -17,7 +17,7 @@ use Rattle.head.specs.declared.refusal.Refusal.{Refusal}
 use Rattle.head.specs.declared.refusal.Refusal.the-variants as R
 use Rattle.head.specs.declared.refusal.Answer.{Answer}
 use Rattle.head.specs.declared.refusal.Answer.the-variants.{Accepted, Refused}
-use Rattle.rules.specs.Lists.{joined, rowsOf}
+use Rattle.rules.specs.Lists.{concat, rowsOf}
 use Rattle.rules.specs.Tree.{Tree, fresh}
 use Rattle.rules.specs.Refit.{refitted}
 use Rattle.rules.specs.Check.{checked, totalOf}
@@ -263,25 +263,25 @@ routed h fs ls xs out =
 unfoldable pub spreadWritten : Head → List Float → List ℕ → List Float → Written Float
 spreadWritten h fs ls out =
     let s = settingsOf h in
-    write (spreadRefusals h fs ls out) (joined (map (spreadOf (s .feature) (s .dim)) (lentTree h fs ls .entries))) out
+    write (spreadRefusals h fs ls out) (concat (map (spreadOf (s .feature) (s .dim)) (lentTree h fs ls .entries))) out
 
 -- ---- calls that only answer
 
 unfoldable pub validated : Head → List Float → List ℕ → Answer
 validated h fs ls = answerOf (treeRefusals h fs ls)
 
-pub record Listed : Type 0 where
+pub record Shown : Type 0 where
   pub answer : Answer
   pub places : Places
 
-unfoldable pub listedBy : List Refusal → Head → Listed
-listedBy [] h =
+unfoldable pub shownBy : List Refusal → Head → Shown
+shownBy [] h =
     let s = settingsOf h in
     record {
       answer = Accepted;
       places = record { entries = h .counters .entries; first = nodeCap s * slotWidth s; width = slotWidth s; means = s .dim; deviations = slotsOf (s .feature) (s .dim) };
     }
-listedBy (r ∷ rs) h = record { answer = Refused r; places = record { entries = 0; first = 0; width = 0; means = 0; deviations = 0 } }
+shownBy (r ∷ rs) h = record { answer = Refused r; places = record { entries = 0; first = 0; width = 0; means = 0; deviations = 0 } }
 
-unfoldable pub listed : Head → List Float → List ℕ → Listed
-listed h fs ls = listedBy (treeRefusals h fs ls) h
+unfoldable pub entriesShown : Head → List Float → List ℕ → Shown
+entriesShown h fs ls = shownBy (treeRefusals h fs ls) h

@@ -11,8 +11,8 @@ use Rattle.binary64.specs.Counts.{isCount}
 use Rattle.feature.specs.declared.Summary.{Summary}
 use Rattle.head.specs.declared.Settings.{Settings}
 use Rattle.head.specs.Sizes.{nodeCap}
-use Rattle.rules.specs.Lists.{every, joined, upFrom, occurs}
-use Rattle.rules.specs.Tree.{Node, Tree, nodeAt, entryAt, cap, rowsIn}
+use Rattle.rules.specs.Lists.{every, concat, upFrom, occurs}
+use Rattle.rules.specs.Tree.{Node, Tree, nodeAt, entryAt, cap, rowCount}
 use Rattle.rules.specs.Reinsert.{collected}
 use Rattle.rules.specs.declared.Verdict.{Verdict}
 use Rattle.rules.specs.declared.Verdict.the-variants.{Passes, Fails}
@@ -71,7 +71,7 @@ leafLists (n ∷ ns) = cond (n .leaf) (n .list) [] ++ leafLists ns
 
 unfoldable pub linked : Tree → Bool
 linked t =
-    onceEach (length (t .nodes)) (joined (levels t)) && every (ownList t) (upFrom (length (t .nodes)) 0)
+    onceEach (length (t .nodes)) (concat (levels t)) && every (ownList t) (upFrom (length (t .nodes)) 0)
     && onceEach (length (t .entries)) (leafLists (t .nodes))
 
 -- 5. No list is empty, but for a lone root leaf with no entries.
@@ -96,7 +96,7 @@ level t = every (sameKind t) (levels t) && growing (levels t)
 -- 7. Entry weights are whole, 1 to 2^53; each node's weight is the sum of the entry weights beneath it; the total is at most 2^53.
 unfoldable pub totalOf : List Summary → ℕ
 totalOf [] = 0
-totalOf (e ∷ es) = rowsIn e + totalOf es
+totalOf (e ∷ es) = rowCount e + totalOf es
 
 -- −0.0 counts as 0
 unfoldable pub weighs : Tree → ℕ → Bool

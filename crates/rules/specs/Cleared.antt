@@ -17,10 +17,10 @@ use Rattle.head.specs.declared.Settings.{Settings}
 use Rattle.head.specs.Heads.{settingsOf, withCounters}
 use Rattle.head.specs.Limits.{Sized}
 use Rattle.head.specs.Sizes.{nodeCap, entryCap, slotWidth, blockWidth, floatsNeeded, linksNeeded, scratchFloatsNeeded, scratchLinksNeeded}
-use Rattle.rules.specs.Lists.{joined}
+use Rattle.rules.specs.Lists.{concat}
 use Rattle.rules.specs.Tree.{Node, Tree, nodeAt, entryAt}
 use Rattle.rules.specs.Slices.{filledTo, summaryOut, blockOut, slotAt, blockAt, floatsOf, linksOf}
-use Rattle.rules.specs.ListLaws.{length-joined, length-filled}
+use Rattle.rules.specs.ListLaws.{length-concat, length-filled}
 use Rattle.rules.specs.Stored.{Fits, means-long, deviations-long, slots-long, entries-long, blocks-long, node-slot, node-block, entry-slot, nodes-part, nodes-part-long, stored}
 use Rattle.rules.specs.Calls.{Lent, Left, lentTree, fronted, changed}
 use Rattle.rules.specs.Fronted.{past-at, filled-past, front-new, behind-old, stretch-at}
@@ -52,30 +52,30 @@ pub record Wiped (s : Settings) (fs gs : List Float) (ls ks : List ℕ) : Type 0
 
 module _ (s : Settings) (z : Sized s) (t : Tree) (f : Fits s t) where
   abbrev node-words : List Float
-  node-words = joined (map (λ (n : Node). summaryOut s (n .summary)) (t .nodes))
+  node-words = concat (map (λ (n : Node). summaryOut s (n .summary)) (t .nodes))
 
   abbrev entry-words : List Float
-  entry-words = joined (map (summaryOut s) (t .entries))
+  entry-words = concat (map (summaryOut s) (t .entries))
 
   abbrev block-words : List ℕ
-  block-words = joined (map (blockOut s) (t .nodes))
+  block-words = concat (map (blockOut s) (t .nodes))
 
   node-words-long : length node-words ≡ length (t .nodes) * slotWidth s
   unfolding nodeAt
   node-words-long =
-      length-joined (slotWidth s) (map (λ (n : Node). summaryOut s (n .summary)) (t .nodes)) (slots-long s z t f (t .nodes) (f .nodes-shaped))
+      length-concat (slotWidth s) (map (λ (n : Node). summaryOut s (n .summary)) (t .nodes)) (slots-long s z t f (t .nodes) (f .nodes-shaped))
       ∙ ap (λ k. k * slotWidth s) (length-map (t .nodes) (λ (n : Node). summaryOut s (n .summary)))
 
   entry-words-long : length entry-words ≡ length (t .entries) * slotWidth s
   unfolding entryAt
   entry-words-long =
-      length-joined (slotWidth s) (map (summaryOut s) (t .entries)) (entries-long s z t f (t .entries) (f .entries-shaped))
+      length-concat (slotWidth s) (map (summaryOut s) (t .entries)) (entries-long s z t f (t .entries) (f .entries-shaped))
       ∙ ap (λ k. k * slotWidth s) (length-map (t .entries) (summaryOut s))
 
   block-words-long : length block-words ≡ length (t .nodes) * blockWidth s
   unfolding nodeAt
   block-words-long =
-      length-joined (blockWidth s) (map (blockOut s) (t .nodes)) (blocks-long s z t f (t .nodes) (f .lists-few))
+      length-concat (blockWidth s) (map (blockOut s) (t .nodes)) (blocks-long s z t f (t .nodes) (f .lists-few))
       ∙ ap (λ k. k * blockWidth s) (length-map (t .nodes) (blockOut s))
 
   entries-part-long : length (filledTo (entryCap s * slotWidth s) f0 entry-words) ≡ entryCap s * slotWidth s

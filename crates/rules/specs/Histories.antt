@@ -12,7 +12,7 @@ use Rattle.feature.specs.declared.Summary.{Summary}
 use Rattle.head.specs.Refusals.{numberOf, valuesOf}
 use Rattle.head.specs.declared.Settings.{Settings}
 use Rattle.head.specs.declared.refusal.Refusal.{Refusal}
-use Rattle.rules.specs.Lists.{joined, rowsOf}
+use Rattle.rules.specs.Lists.{concat, rowsOf}
 use Rattle.rules.specs.Tree.{Node, Tree}
 use Rattle.rules.specs.Refit.{refitted}
 use Rattle.rules.specs.Check.{checked}
@@ -87,7 +87,7 @@ step s t (Route xs) =
     look (treeRefusal (checked s t) ++ routeAsked s t (floats xs) (replicate n 0)) t (map (greedy s t) (rowsOf n (s .dim) (floats xs)) ∷ [])
 step s t Spread =
     look (treeRefusal (checked s t) ++ spreadAsked s t (replicate (length (t .entries) * s .dim) f0)) t
-    (map bits (joined (map (spreadOf (s .feature) (s .dim)) (t .entries))) ∷ [])
+    (map bits (concat (map (spreadOf (s .feature) (s .dim)) (t .entries))) ∷ [])
 step s t Validate = record { answer = refusalSeen (treeRefusal (checked s t)) ∷ []; tree = t }
 step s t State = record { answer = treeSeen s t; tree = t }
 

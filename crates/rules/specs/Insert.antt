@@ -8,9 +8,9 @@ use Rattle.feature.specs.Summaries.{blank}
 use Rattle.feature.specs.declared.Summary.{Summary}
 use Rattle.head.specs.declared.Settings.{Settings}
 use Rattle.rules.specs.Lists.{changeAt, snoc}
-use Rattle.rules.specs.Tree.{Tree, push, merge, distTo, absTo, distBetween, absBetween, rowsIn, nodeAt, entryAt, withNodes, withEntries, adding}
+use Rattle.rules.specs.Tree.{Tree, push, merge, distTo, absTo, distBetween, absBetween, rowCount, nodeAt, entryAt, withNodes, withEntries, adding}
 use Rattle.rules.specs.Descent.{leafFor, searched, alongPath}
-use Rattle.rules.specs.Split.{settled}
+use Rattle.rules.specs.Split.{splitFrom}
 use Rattle.rules.specs.declared.Nearest.{Nearest}
 use Rattle.rules.specs.declared.Nearest.the-variants.{Entry, Nothing}
 
@@ -28,7 +28,7 @@ rowItem s x = record { near = λ c. distTo s c x; gap = λ c. absTo s c x; taken
 
 -- a summary, as it comes when the tree is built anew
 abbrev pub summaryItem : Settings → Summary → Item
-summaryItem s e = record { near = λ c. distBetween s c e; gap = λ c. absBetween s c e; taken = λ c. merge s c e; alone = e; rows = rowsIn e }
+summaryItem s e = record { near = λ c. distBetween s c e; gap = λ c. absBetween s c e; taken = λ c. merge s c e; alone = e; rows = rowCount e }
 
 -- the entry e is the last, and last in the list of leaf l
 unfoldable pub begun : ℕ → Summary → Tree → Tree
@@ -52,7 +52,7 @@ placed i l t = absorbedOrBegun i l (searched (λ e. i .near (entryAt t e)) (node
 
 -- into leaf l: the item is taken into the path's nodes before the search
 unfoldable pub grownAt : Settings → Item → ℕ → Tree → Tree
-grownAt s i l t = settled s l (placed i l (alongPath (i .taken) l t))
+grownAt s i l t = splitFrom s l (placed i l (alongPath (i .taken) l t))
 
 unfoldable pub grown : Settings → Item → Tree → Tree
 grown s i t = grownAt s i (leafFor t (i .near)) t

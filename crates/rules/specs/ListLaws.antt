@@ -10,7 +10,7 @@ use native.Mathlib.Nat.{eq-or-lt-of-le, suc-mul, zero-mul, add-comm}
 use native.Mathlib.Omega.{arith}
 use lib.ListN.{length, getD, take, drop, replicate, length-append, length-replicate, List·getD-append}
 use lib.Seq.{take-at, drop-at, drop-drop, getD-append-seam, ext-getD}
-use Rattle.rules.specs.Lists.{snoc, joined, table, rowsOf}
+use Rattle.rules.specs.Lists.{snoc, concat, table, rowsOf}
 use Rattle.rules.specs.Slices.{stretch, filledTo}
 
 pub below? : (i n : ℕ) → (i < n) ⊎ (n ≤ i)
@@ -47,18 +47,18 @@ module _ {A : Type 0} where
   EachLong w [] = Unit
   EachLong w (l ∷ ls) = (length l ≡ w) × EachLong w ls
 
-  pub length-joined : (w : ℕ) (ls : List (List A)) → EachLong w ls → length (joined ls) ≡ length ls * w
-  unfolding joined
-  length-joined w [] e = sym (zero-mul w)
-  length-joined w (l ∷ ls) e = length-append l (joined ls) ∙ rw (e .0, length-joined w ls (e .1)) (sym (suc-mul (length ls) w ∙ omega arith))
+  pub length-concat : (w : ℕ) (ls : List (List A)) → EachLong w ls → length (concat ls) ≡ length ls * w
+  unfolding concat
+  length-concat w [] e = sym (zero-mul w)
+  length-concat w (l ∷ ls) e = length-append l (concat ls) ∙ rw (e .0, length-concat w ls (e .1)) (sym (suc-mul (length ls) w ∙ omega arith))
 
   -- piece i of the pieces, whatever follows them
-  pub piece-at : (w : ℕ) (ls : List (List A)) (rest : List A) (i : ℕ) → EachLong w ls → i < length ls → stretch (joined ls ++ rest) (i * w) w ≡ getD ls i []
-  unfolding joined stretch
-  piece-at w (l ∷ ls) rest zero e h = rw (zero-mul w, append-assoc l (joined ls) rest) (take-at l (joined ls ++ rest) w (e .0))
+  pub piece-at : (w : ℕ) (ls : List (List A)) (rest : List A) (i : ℕ) → EachLong w ls → i < length ls → stretch (concat ls ++ rest) (i * w) w ≡ getD ls i []
+  unfolding concat stretch
+  piece-at w (l ∷ ls) rest zero e h = rw (zero-mul w, append-assoc l (concat ls) rest) (take-at l (concat ls ++ rest) w (e .0))
   piece-at w (l ∷ ls) rest (suc i) e h =
-      let past : drop (suc i * w) ((l ++ joined ls) ++ rest) ≡ drop (i * w) (joined ls ++ rest) =
-      rw (append-assoc l (joined ls) rest, suc-mul i w, add-comm (i * w) w, ← drop-drop (i * w) w (l ++ (joined ls ++ rest)), drop-at l (joined ls ++ rest) w (e .0)) in
+      let past : drop (suc i * w) ((l ++ concat ls) ++ rest) ≡ drop (i * w) (concat ls ++ rest) =
+      rw (append-assoc l (concat ls) rest, suc-mul i w, add-comm (i * w) w, ← drop-drop (i * w) w (l ++ (concat ls ++ rest)), drop-at l (concat ls ++ rest) w (e .0)) in
       ap (take w) past ∙ piece-at w ls rest i (e .1) (omega arith)
 
   -- past a list of a elements

@@ -15,7 +15,7 @@ use Rattle.head.specs.Limits.{allowed}
 use Rattle.head.specs.declared.Head.{Head}
 use Rattle.head.specs.declared.Settings.{Settings}
 use Rattle.head.specs.declared.refusal.Refusal.{Refusal}
-use Rattle.rules.specs.Tree.{Tree, fresh, rowsIn}
+use Rattle.rules.specs.Tree.{Tree, fresh, rowCount}
 use Rattle.rules.specs.Check.{totalOf}
 use Rattle.rules.specs.Calls.{rowAsked}
 use Rattle.rules.specs.Rows.{inserted}
@@ -150,7 +150,7 @@ lineOf (f ∷ g ∷ fs) = f ++ (9 ∷ lineOf (g ∷ fs))
 -- its number, weight, means, deviations (one, or dim)
 unfoldable pub entryLine : Settings → ℕ → Summary → List ℕ
 entryLine s i e =
-    lineOf (decimalOf i ∷ decimalOf (rowsIn e) ∷ (map hexOf (take (s .dim) (e .mean)) ++ map hexOf (take (slotsOf (s .feature) (s .dim)) (e .deviation))))
+    lineOf (decimalOf i ∷ decimalOf (rowCount e) ∷ (map hexOf (take (s .dim) (e .mean)) ++ map hexOf (take (slotsOf (s .feature) (s .dim)) (e .deviation))))
 
 unfoldable pub entryLines : Settings → ℕ → List Summary → List ℕ
 entryLines s i [] = []

@@ -27,9 +27,9 @@ module _ {A : Type 0} where
   every f [] = true
   every f (x ∷ xs) = f x && every f xs
 
-  unfoldable pub joined : List (List A) → List A
-  joined [] = []
-  joined (l ∷ ls) = l ++ joined ls
+  unfoldable pub concat : List (List A) → List A
+  concat [] = []
+  concat (l ∷ ls) = l ++ concat ls
 
   -- f 0, f 1 .. f (n − 1)
   unfoldable pub table : (ℕ → A) → ℕ → List A

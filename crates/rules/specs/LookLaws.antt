@@ -23,11 +23,11 @@ use Rattle.head.specs.declared.Head.{Head}
 use Rattle.head.specs.declared.Settings.{Settings}
 use Rattle.head.specs.declared.refusal.Refusal.{Refusal}
 use Rattle.head.specs.declared.refusal.Answer.the-variants.{Accepted, Refused}
-use Rattle.rules.specs.Lists.{joined, rowsOf}
+use Rattle.rules.specs.Lists.{concat, rowsOf}
 use Rattle.rules.specs.Tree.{Tree, entryAt}
 use Rattle.rules.specs.Slices.{eight, summaryIn, slotAt, treeOf}
-use Rattle.rules.specs.ListLaws.{length-table, EachLong, length-joined, piece-at, rows-count, rows-at, map-at}
-use Rattle.rules.specs.Calls.{fronted, lentTree, treeRefusals, spreadRefusals, write, routed, spreadWritten, listedBy, listed}
+use Rattle.rules.specs.ListLaws.{length-table, EachLong, length-concat, piece-at, rows-count, rows-at, map-at}
+use Rattle.rules.specs.Calls.{fronted, lentTree, treeRefusals, spreadRefusals, write, routed, spreadWritten, shownBy, entriesShown}
 use Rattle.rules.specs.RefusalLaws.{none-both}
 use Rattle.rules.specs.CallLaws.{tree-readable}
 use Rattle.rules.specs.Stored.{slots-in}
@@ -118,7 +118,7 @@ module _ (h : Head) (fs : List Float) (ls : List ℕ) where
       abbrev numbers : List (List Float)
       numbers = map (spreadOf (s .feature) (s .dim)) (t .entries)
 
-      spread-done : (treeRefusals h fs ls ≡ []) × (spreadWritten h fs ls out .output ≡ fronted (joined numbers) out)
+      spread-done : (treeRefusals h fs ls ≡ []) × (spreadWritten h fs ls out .output ≡ fronted (concat numbers) out)
       unfolding spreadWritten spreadRefusals
       spread-done = let (none, is) = write-accepted _ _ out e in (none-both (treeRefusals h fs ls) _ none .0, is)
 
@@ -138,18 +138,18 @@ module _ (h : Head) (fs : List Float) (ls : List ℕ) where
       unfolding entryAt
       all-dim = each-dim (t .entries) entry-shaped
 
-      numbers-long : length (joined numbers) ≡ length (t .entries) * s .dim
-      numbers-long = length-joined (s .dim) numbers all-dim ∙ ap (λ k. k * s .dim) (length-map (t .entries) (spreadOf (s .feature) (s .dim)))
+      numbers-long : length (concat numbers) ≡ length (t .entries) * s .dim
+      numbers-long = length-concat (s .dim) numbers all-dim ∙ ap (λ k. k * s .dim) (length-map (t .entries) (spreadOf (s .feature) (s .dim)))
 
       -- an accepted one writes dim numbers for every entry, in order, to its front
       pub spread-front : (i j : ℕ) → i < length (t .entries) → j < s .dim
           → at (spreadWritten h fs ls out .output) (i * s .dim + j) ≡ at (spreadOf (s .feature) (s .dim) (entryAt t i)) j
       unfolding fronted entryAt
       spread-front i j a b =
-          let rest = drop (length (joined numbers)) out in
+          let rest = drop (length (concat numbers)) out in
           let count = length-map (t .entries) (spreadOf (s .feature) (s .dim)) in
           ap (λ l. at l (i * s .dim + j)) (spread-done .1)
-          ∙ sym (stretch-at (joined numbers ++ rest) (i * s .dim) (s .dim) j nan b)
+          ∙ sym (stretch-at (concat numbers ++ rest) (i * s .dim) (s .dim) j nan b)
           ∙ ap (λ l. at l j) (piece-at (s .dim) numbers rest i all-dim (omega arith) ∙ map-at (spreadOf (s .feature) (s .dim)) (t .entries) i blank [] a)
 
       -- Spherical's is its deviation over weight and over dim, repeated; Diagonal's is the channel's deviation over weight
@@ -166,35 +166,35 @@ module _ (h : Head) (fs : List Float) (ls : List ℕ) where
 
       -- and nothing else
       pub spread-rest : (i : ℕ) (d : Float) → length (t .entries) * s .dim ≤ i → getD (spreadWritten h fs ls out .output) i d ≡ getD out i d
-      spread-rest i d a = let long = numbers-long in ap (λ l. getD l i d) (spread-done .1) ∙ behind-old (joined numbers) out i d (omega arith)
+      spread-rest i d a = let long = numbers-long in ap (λ l. getD l i d) (spread-done .1) ∙ behind-old (concat numbers) out i d (omega arith)
 
   -- ---- the listing: where the entries stand in the floats
 
-  module _ (e : listed h fs ls .answer ≡ Accepted) where
+  module _ (e : entriesShown h fs ls .answer ≡ Accepted) where
     abbrev places : Places
-    places = listed h fs ls .places
+    places = entriesShown h fs ls .places
 
     none-refused : treeRefusals h fs ls ≡ []
-    unfolding listed
+    unfolding entriesShown
     none-refused = go (treeRefusals h fs ls) e
       where
-        go : (rs : List Refusal) → listedBy rs h .answer ≡ Accepted → rs ≡ []
+        go : (rs : List Refusal) → shownBy rs h .answer ≡ Accepted → rs ≡ []
         go [] e = refl
-        go (r ∷ rs) e = let z : _≡_ {A = ℕ} 0 1 = unfold listedBy in cc in absurd (omega arith)
+        go (r ∷ rs) e = let z : _≡_ {A = ℕ} 0 1 = unfold shownBy in cc in absurd (omega arith)
 
-    places-are : places ≡ listedBy [] h .places
-    unfolding listed
-    places-are = ap (λ rs. listedBy rs h .places) none-refused
+    places-are : places ≡ shownBy [] h .places
+    unfolding entriesShown
+    places-are = ap (λ rs. shownBy rs h .places) none-refused
 
     -- as many as there are, each with dim means, and one deviation or dim
     pub listed-counts : (places .entries ≡ length (t .entries)) × (places .means ≡ s .dim) × (places .deviations ≡ slotsOf (s .feature) (s .dim))
-    unfolding listedBy lentTree treeOf
+    unfolding shownBy lentTree treeOf
     listed-counts =
         (ap (λ p. p .entries) places-are ∙ sym (length-table _ (h .counters .entries)), ap (λ p. p .means) places-are, ap (λ p. p .deviations) places-are)
 
     -- a word of entry i
     word : (i j : ℕ) → j < slotWidth s → at fs (places .first + i * places .width + j) ≡ at (slotAt s fs (nodeCap s + i)) j
-    unfolding listedBy slotAt
+    unfolding shownBy slotAt
     word i j b =
         ap (λ p. at fs (p .first + i * p .width + j)) places-are
         ∙ sym (stretch-at fs ((nodeCap s + i) * slotWidth s) (slotWidth s) j nan b ∙ ap (λ k. at fs (k + j)) (add-mul (nodeCap s) i (slotWidth s)))

@@ -19,7 +19,7 @@ use Rattle.head.specs.declared.refusal.Answer.{Answer}
 use Rattle.head.specs.declared.refusal.Answer.the-variants.{Accepted, Refused}
 use Rattle.rules.specs.Tree.{Tree}
 use Rattle.rules.specs.Check.{checked, totalOf}
-use Rattle.rules.specs.Calls.{unless, answerOf, settingsRefusal, roomRefusal, treeRefusal, rowShapeRefusal, batchShapeRefusal, emptyRefusal, insertFullRefusal, refitFullRefusal, outputRefusal, Lent, lentTree, treeRefusals, changeRefusals, changed, settle, madeBy, createRefusals, created, rowAsked, rowsAsked, batchAsked, refitAsked, routeAsked, spreadAsked, rowRefusals, batchRefusals, refitRefusals, routeRefusals, spreadRefusals, rowInserted, batchInserted, batchRefitted, write, routed, spreadWritten, validated, listedBy, listed}
+use Rattle.rules.specs.Calls.{unless, answerOf, settingsRefusal, roomRefusal, treeRefusal, rowShapeRefusal, batchShapeRefusal, emptyRefusal, insertFullRefusal, refitFullRefusal, outputRefusal, Lent, lentTree, treeRefusals, changeRefusals, changed, settle, madeBy, createRefusals, created, rowAsked, rowsAsked, batchAsked, refitAsked, routeAsked, spreadAsked, rowRefusals, batchRefusals, refitRefusals, routeRefusals, spreadRefusals, rowInserted, batchInserted, batchRefitted, write, routed, spreadWritten, validated, shownBy, entriesShown}
 use Rattle.rules.specs.RefusalLaws.{first-given}
 use Rattle.rules.specs.CallLaws.{settle-answer}
 use Rattle.rules.specs.declared.Verdict.{Verdict}
@@ -112,13 +112,13 @@ module _ (h : Head) (fs : List Float) (ls : List ℕ) where
       (then (allowed h) R.Settings _
       (then (leb (floatsNeeded s) (length fs)) R.Room _ (then (leb (linksNeeded s) (length ls)) R.Room _ (tree-told (checked s t)))))
 
-  pub listed-order : listed h fs ls .answer ≡ validated h fs ls
-  unfolding listed validated
+  pub listed-order : entriesShown h fs ls .answer ≡ validated h fs ls
+  unfolding entriesShown validated
   listed-order = go (treeRefusals h fs ls)
     where
-      go : (rs : List Refusal) → listedBy rs h .answer ≡ answerOf rs
-      go [] = unfold listedBy answerOf in refl
-      go (r ∷ rs) = unfold listedBy answerOf in refl
+      go : (rs : List Refusal) → shownBy rs h .answer ≡ answerOf rs
+      go [] = unfold shownBy answerOf in refl
+      go (r ∷ rs) = unfold shownBy answerOf in refl
 
   -- 1, 2 and 3, then 4, 5 and 7
   pub route-order : (xs : List Float) (out : List ℕ) → routed h fs ls xs out .answer

@@ -12,7 +12,7 @@ use Rattle.feature.specs.Summaries.{blank}
 use Rattle.feature.specs.declared.Summary.{Summary}
 use Rattle.head.specs.declared.Settings.{Settings}
 use Rattle.rules.specs.Lists.{changeAt, keep, countUp}
-use Rattle.rules.specs.Tree.{Node, Tree, merge, absBetween, withNodes, withEntries, onRunning, listing}
+use Rattle.rules.specs.Tree.{Node, Tree, merge, absBetween, withNodes, withEntries, onRunning, withList}
 use Rattle.rules.specs.Pairs.{siblings, cousins, sorted}
 use Rattle.rules.specs.declared.Pair.{Pair}
 use Rattle.rules.specs.Reinsert.{reinserted}
@@ -92,7 +92,7 @@ unfoldable pub keepNumbers : List Bool → List ℕ → List ℕ
 keepNumbers alive es = filterMap (numberIf alive) es
 
 unfoldable pub pruned : List Bool → Node → Node
-pruned alive n = listing (cond (n .leaf) (keepNumbers alive (n .list)) (n .list)) n
+pruned alive n = withList (cond (n .leaf) (keepNumbers alive (n .list)) (n .list)) n
 
 unfoldable pub dropped : List Bool → Tree → Tree
 dropped alive t = withEntries (keep alive (t .entries)) (withNodes (map (pruned alive) (t .nodes)) t)

@@ -7,7 +7,7 @@ use Rattle.feature.specs.declared.Summary.{Summary}
 use Rattle.head.specs.declared.Settings.{Settings}
 use Rattle.rules.specs.Tree.{Tree, blankNode, nodeAt, entryAt}
 use Rattle.rules.specs.Descent.{leafFor, alongPath}
-use Rattle.rules.specs.Split.{settled}
+use Rattle.rules.specs.Split.{splitFrom}
 use Rattle.rules.specs.Insert.{summaryItem, begun}
 
 -- the entries' numbers below the nodes ns, from the first leaf to the last; k nodes at most
@@ -25,7 +25,7 @@ unfoldable pub replaced : Settings → Summary → Tree → Tree
 replaced s e t =
     let i = summaryItem s e in
     let l = leafFor t (i .near) in
-    settled s l (begun l (i .alone) (alongPath (i .taken) l t))
+    splitFrom s l (begun l (i .alone) (alongPath (i .taken) l t))
 
 unfoldable pub replacedAll : Settings → List Summary → Tree → Tree
 replacedAll s [] t = t

@@ -15,7 +15,7 @@ use Rattle.head.specs.declared.Head.{Head}
 use Rattle.head.specs.declared.Settings.{Settings}
 use Rattle.head.specs.declared.refusal.Answer.{Answer}
 use Rattle.head.specs.declared.refusal.Answer.the-variants.{Accepted, Refused}
-use Rattle.rules.specs.Tree.{Node, Tree, nodeAt, rowsIn}
+use Rattle.rules.specs.Tree.{Node, Tree, nodeAt, rowCount}
 use Rattle.rules.specs.Check.{totalOf}
 use Rattle.rules.specs.Calls.{Left, lentTree, created, rowInserted}
 use Rattle.rules.specs.Listing.{rowlist}
@@ -56,7 +56,7 @@ bits x = toBits binary64 x
 
 -- an entry's line: its number, weight, means, deviations
 unfoldable pub line : Settings → ℕ → Summary → List ℕ
-line s i e = i ∷ rowsIn e ∷ (map bits (take (s .dim) (e .mean)) ++ map bits (take (slotsOf (s .feature) (s .dim)) (e .deviation)))
+line s i e = i ∷ rowCount e ∷ (map bits (take (s .dim) (e .mean)) ++ map bits (take (slotsOf (s .feature) (s .dim)) (e .deviation)))
 
 unfoldable pub lines : Settings → ℕ → List Summary → List (List ℕ)
 lines s i [] = []
@@ -72,10 +72,10 @@ leavesSeen (n ∷ ns) = cond (n .leaf) (n .list ∷ leavesSeen ns) (leavesSeen n
 
 -- the weights of all nodes but the root
 unfoldable pub othersSeen : Tree → List ℕ
-othersSeen t = map (λ n. rowsIn (n .summary)) (take (t .root) (t .nodes) ++ drop (suc (t .root)) (t .nodes))
+othersSeen t = map (λ n. rowCount (n .summary)) (take (t .root) (t .nodes) ++ drop (suc (t .root)) (t .nodes))
 
 unfoldable pub rootSeen : Tree → ℕ
-rootSeen t = rowsIn (nodeAt t (t .root) .summary)
+rootSeen t = rowCount (nodeAt t (t .root) .summary)
 
 pub data Says : Type 0 where
   lists : List (List ℕ) → Says

@@ -13,7 +13,7 @@ use Rattle.feature.specs.declared.Summary.{Summary}
 use Rattle.head.specs.declared.Settings.{Settings}
 use Rattle.head.specs.declared.Counters.{Counters}
 use Rattle.head.specs.Sizes.{nodeCap, entryCap, slotWidth, blockWidth, linksNeeded}
-use Rattle.rules.specs.Lists.{joined, table}
+use Rattle.rules.specs.Lists.{concat, table}
 use Rattle.rules.specs.Tree.{Node, Tree}
 
 module _ {A : Type 0} where
@@ -93,8 +93,8 @@ countersOf t = record { nodes = length (t .nodes); entries = length (t .entries)
 
 unfoldable pub floatsOf : Settings → Tree → List Float
 floatsOf s t =
-    filledTo (nodeCap s * slotWidth s) f0 (joined (map (λ n. summaryOut s (n .summary)) (t .nodes)))
-    ++ filledTo (entryCap s * slotWidth s) f0 (joined (map (summaryOut s) (t .entries)))
+    filledTo (nodeCap s * slotWidth s) f0 (concat (map (λ n. summaryOut s (n .summary)) (t .nodes)))
+    ++ filledTo (entryCap s * slotWidth s) f0 (concat (map (summaryOut s) (t .entries)))
 
 unfoldable pub linksOf : Settings → Tree → List ℕ
-linksOf s t = filledTo (linksNeeded s) 0 (joined (map (blockOut s) (t .nodes)))
+linksOf s t = filledTo (linksNeeded s) 0 (concat (map (blockOut s) (t .nodes)))

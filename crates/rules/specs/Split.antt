@@ -107,5 +107,5 @@ unfoldable pub splitUp : Settings → ℕ → ℕ → Tree → Tree
 splitUp s zero i t = t
 splitUp s (suc k) i t = splitIf s (λ p u. splitUp s k p u) i (fitting s t i) t
 
-unfoldable pub settled : Settings → ℕ → Tree → Tree
-settled s i t = splitUp s (length (t .nodes)) i t
+unfoldable pub splitFrom : Settings → ℕ → Tree → Tree
+splitFrom s i t = splitUp s (length (t .nodes)) i t

@@ -22,10 +22,10 @@ use Rattle.feature.specs.declared.Feature.the-variants.{Spherical, Diagonal}
 use Rattle.head.specs.declared.Settings.{Settings}
 use Rattle.head.specs.Limits.{Sized}
 use Rattle.head.specs.Sizes.{nodeCap, entryCap, slotWidth, blockWidth}
-use Rattle.rules.specs.Lists.{joined}
+use Rattle.rules.specs.Lists.{concat}
 use Rattle.rules.specs.Tree.{Node, Tree, nodeAt, entryAt, blankNode}
 use Rattle.rules.specs.Slices.{stretch, filledTo, eight, summaryIn, summaryOut, noParent, parentIn, parentOut, leafIn, lengthIn, kindOut, nodeIn, blockOut, slotAt, blockAt, treeOf, countersOf, floatsOf, linksOf}
-use Rattle.rules.specs.ListLaws.{below?, table-is, EachLong, length-joined, piece-at, stretch-past, length-filled, map-at}
+use Rattle.rules.specs.ListLaws.{below?, table-is, EachLong, length-concat, piece-at, stretch-past, length-filled, map-at}
 
 -- what fits its slots: no more nodes and entries than there are, no list longer than its block, no parent that is the reserved number
 pub record Fits (s : Settings) (t : Tree) : Type 0 where
@@ -152,17 +152,17 @@ module _ (s : Settings) (z : Sized s) where
         ∙ map-at (blockOut s) (t .nodes) i blankNode [] l)
 
     unfoldable pub nodes-part : List Float
-    nodes-part = filledTo (nodeCap s * slotWidth s) f0 (joined (map (λ n. summaryOut s (n .summary)) (t .nodes)))
+    nodes-part = filledTo (nodeCap s * slotWidth s) f0 (concat (map (λ n. summaryOut s (n .summary)) (t .nodes)))
 
     pub nodes-part-long : length nodes-part ≡ nodeCap s * slotWidth s
     unfolding nodes-part nodeAt
     nodes-part-long =
         let out : Node → List Float = λ n. summaryOut s (n .summary) in
-        let long = length-joined (slotWidth s) (map out (t .nodes)) (slots-long (t .nodes) (fits .nodes-shaped)) in
-        length-filled (nodeCap s * slotWidth s) f0 (joined (map out (t .nodes))) (rw (long, length-map (t .nodes) out) (mul-le-mul-right (slotWidth s) (fits .nodes-few)))
+        let long = length-concat (slotWidth s) (map out (t .nodes)) (slots-long (t .nodes) (fits .nodes-shaped)) in
+        length-filled (nodeCap s * slotWidth s) f0 (concat (map out (t .nodes))) (rw (long, length-map (t .nodes) out) (mul-le-mul-right (slotWidth s) (fits .nodes-few)))
 
     entry-piece : (fs : List Float) (i : ℕ) → i < length (t .entries)
-        → stretch (filledTo (entryCap s * slotWidth s) f0 (joined (map (summaryOut s) (t .entries))) ++ fs) (i * slotWidth s) (slotWidth s) ≡ summaryOut s (entryAt t i)
+        → stretch (filledTo (entryCap s * slotWidth s) f0 (concat (map (summaryOut s) (t .entries))) ++ fs) (i * slotWidth s) (slotWidth s) ≡ summaryOut s (entryAt t i)
     unfolding filledTo entryAt
     entry-piece fs i l =
         simp append-assoc
@@ -172,7 +172,7 @@ module _ (s : Settings) (z : Sized s) where
     pub entry-slot : (fs : List Float) (i : ℕ) → i < length (t .entries) → slotAt s (floatsOf s t ++ fs) (nodeCap s + i) ≡ summaryOut s (entryAt t i)
     unfolding slotAt floatsOf nodes-part
     entry-slot fs i l =
-        let rest = filledTo (entryCap s * slotWidth s) f0 (joined (map (summaryOut s) (t .entries))) in
+        let rest = filledTo (entryCap s * slotWidth s) f0 (concat (map (summaryOut s) (t .entries))) in
         rw (append-assoc nodes-part rest fs, add-mul (nodeCap s) i (slotWidth s))
         (stretch-past nodes-part (rest ++ fs) (nodeCap s * slotWidth s) (i * slotWidth s) (slotWidth s) nodes-part-long ∙ entry-piece fs i l)
 

@@ -48,8 +48,8 @@ abbrev pub absBetween : Settings → Summary → Summary → Float
 absBetween s a b = betweenOf (s .abs) (s .feature) (s .dim) a b
 
 -- the rows that a summary's weight stands for
-unfoldable pub rowsIn : Summary → ℕ
-rowsIn e = toUnsigned 64 (e .weight)
+unfoldable pub rowCount : Summary → ℕ
+rowCount e = toUnsigned 64 (e .weight)
 
 -- ---- reading
 
@@ -90,12 +90,12 @@ onRunning f t = record { nodes = t .nodes; entries = t .entries; root = t .root;
 unfoldable pub summed : (Summary → Summary) → Node → Node
 summed f n = record { summary = f (n .summary); list = n .list; leaf = n .leaf; parent = n .parent }
 
-unfoldable pub listing : List ℕ → Node → Node
-listing ks n = record { summary = n .summary; list = ks; leaf = n .leaf; parent = n .parent }
+unfoldable pub withList : List ℕ → Node → Node
+withList ks n = record { summary = n .summary; list = ks; leaf = n .leaf; parent = n .parent }
 
 -- one number more, last in the list
 unfoldable pub adding : ℕ → Node → Node
-adding k n = listing (snoc (n .list) k) n
+adding k n = withList (snoc (n .list) k) n
 
 unfoldable pub under : ℕ → Node → Node
 under p n = record { summary = n .summary; list = n .list; leaf = n .leaf; parent = some p }

@@ -12,7 +12,7 @@ use Rattle.head.specs.declared.Settings.{Settings}
 use Rattle.head.specs.declared.Counters.{Counters}
 use Rattle.head.specs.Sizes.{blockWidth}
 use Rattle.rules.specs.Lists.{changeAt, snoc}
-use Rattle.rules.specs.Tree.{Node, Tree, blankNode, nodeAt, withNodes, summed, listing, under}
+use Rattle.rules.specs.Tree.{Node, Tree, blankNode, nodeAt, withNodes, summed, withList, under}
 use Rattle.rules.specs.Slices.{noParent}
 use Rattle.rules.specs.Split.{gathered, adopted, half, parted, split}
 use Rattle.stretch.specs.declared.block.Parent.{Parent}
@@ -67,9 +67,9 @@ module _ {A : Type 0} where
   change-set f zero (x ∷ l) d = refl
   change-set f (suc i) (x ∷ l) d = ap (λ m. x ∷ m) (change-set f i l d)
 
-pub refill-is : (c : Summary) (ks : List ℕ) (i : ℕ) (t : Tree) → onNode (listing ks) i (onNode (summed (λ _. c)) i t) ≡ onNode (refilled c ks) i t
-unfolding onNode withNodes refilled listing summed
-refill-is c ks i t = ap (λ ns. withNodes ns t) (change-twice (listing ks) (summed (λ _. c)) i (t .nodes))
+pub refill-is : (c : Summary) (ks : List ℕ) (i : ℕ) (t : Tree) → onNode (withList ks) i (onNode (summed (λ _. c)) i t) ≡ onNode (refilled c ks) i t
+unfolding onNode withNodes refilled withList summed
+refill-is c ks i t = ap (λ ns. withNodes ns t) (change-twice (withList ks) (summed (λ _. c)) i (t .nodes))
 
 -- ---- the nodes of a list adopted, one after the other
 

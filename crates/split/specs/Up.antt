@@ -14,7 +14,7 @@ use Rattle.head.specs.Sizes.{nodeCap, blockWidth}
 use Rattle.head.specs.Counting.{countNodes, rootAt}
 use Rattle.rules.specs.Tree.{Tree, nodeAt, cap, adding}
 use Rattle.rules.specs.Slices.{nodeIn, treeOf}
-use Rattle.rules.specs.Split.{split, crowned, fitting, splitNext, splitIf, splitUp, settled}
+use Rattle.rules.specs.Split.{split, crowned, fitting, splitNext, splitIf, splitUp, splitFrom}
 use Rattle.stretch.specs.declared.block.Parent.{Parent}
 use Rattle.stretch.specs.declared.block.Parent.the-variants as P
 use Rattle.stretch.specs.Blocks.{parentOf}
@@ -35,8 +35,8 @@ module _ (s : Settings) (t : Tree) (i : ℕ) {l : ℕ} {b : Bool} (p : l ≡ len
 -- ---- the rule's steps
 
 module _ (s : Settings) (k i : ℕ) (t : Tree) where
-  pub up-start : length (t .nodes) ≡ k → splitUp s k i t ≡ settled s i t
-  unfolding settled
+  pub up-start : length (t .nodes) ≡ k → splitUp s k i t ≡ splitFrom s i t
+  unfolding splitFrom
   up-start e = rw e
 
   pub up-end : k ≡ 0 → splitUp s k i t ≡ t

@@ -10,7 +10,7 @@ ghost use lib.ListN.{length};
 ghost use Rattle.head.specs.Sizes.{nodeCap};
 ghost use Rattle.head.specs.Counting.{countNodes, rootAt};
 ghost use Rattle.rules.specs.Slices.{treeOf};
-ghost use Rattle.rules.specs.Split.{fitting, split, crowned, settled};
+ghost use Rattle.rules.specs.Split.{fitting, split, crowned, splitFrom};
 ghost use Rattle.arena.specs.Trees.{AnyFloats, Floats, Links};
 ghost use Rattle.split.specs.Rising.{Splits, Rising};
 use crate::gather::gather;
@@ -90,7 +90,7 @@ pub fn split_up(
     requires { ⌜ Rising s (n .nodes) n i (treeOf s n (now floats) (now links)) ⌝ }
     ensures { λ r. ⌜ Floats s r (length (now (floats .entry))) × Links s r (length (now (links .entry))) ⌝ }
     ensures { λ r. ⌜
-        treeOf s r (now (floats .exit)) (now (links .exit)) ≡ settled s i (treeOf s n (now (floats .entry)) (now (links .entry))) ⌝ }
+        treeOf s r (now (floats .exit)) (now (links .exit)) ≡ splitFrom s i (treeOf s n (now (floats .entry)) (now (links .entry))) ⌝ }
 {
     let mut m = n;
     let mut at = i;

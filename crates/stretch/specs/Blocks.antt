@@ -14,7 +14,7 @@ use Rattle.head.specs.declared.Settings.{Settings}
 use Rattle.head.specs.Limits.{Sized}
 use Rattle.head.specs.Sizes.{blockWidth}
 use Rattle.rules.specs.Lists.{snoc}
-use Rattle.rules.specs.Tree.{Node, adding, listing, under}
+use Rattle.rules.specs.Tree.{Node, adding, withList, under}
 use Rattle.rules.specs.Slices.{summaryIn, noParent, parentIn, parentOut, leafIn, kindOut, lengthIn, nodeIn}
 use Rattle.rules.specs.Stored.{parent-back, leaf-back, length-back}
 use Rattle.stretch.specs.Stretches.{putStretch, put-rest}
@@ -156,8 +156,8 @@ link-is s p par leaf n w k (x ∷ []) l list b f h g ew ek el = absurd (omega (a
 pub list-is : (s : Settings) (p : List Float) (leaf : Bool) (n k : ℕ) (b l list : List ℕ) → Block s b → n + 2 ≤ blockWidth s → n ≤ length list
     → leaf ≡ nodeIn s p b .leaf → k ≡ kindOut leaf n
     → l ≡ take n list ++ drop n (take (length (set b 1 k) - 2) (drop 2 (set b 1 k)))
-    → nodeIn s p (putStretch (set b 1 k) 2 (length (set b 1 k) - 2) l) ≡ listing (take n list) (nodeIn s p b)
-unfolding linked nodeOf listing nodeIn
+    → nodeIn s p (putStretch (set b 1 k) 2 (length (set b 1 k) - 2) l) ≡ withList (take n list) (nodeIn s p b)
+unfolding linked nodeOf withList nodeIn
 list-is s p leaf n k (x ∷ y ∷ r) l list b h g ef ek el =
     ap (λ m. nodeIn s p (putStretch (x ∷ m ∷ r) 2 (length (x ∷ m ∷ r) - 2) l)) ek
     ∙ listed-is s (b .sized) p x y n leaf r l list (omega arith) g (b .long) el
@@ -175,7 +175,7 @@ under-is s p i (x ∷ []) b h = absurd (omega (arith, b .some))
 pub added-is : (s : Settings) (p : List Float) (i len : ℕ) (b : List ℕ) → Block s b → length (nodeIn s p b .list) + 2 < blockWidth s → len
     ≡ length (nodeIn s p b .list)
     → nodeIn s p (set (set b (2 + len) i) 1 (getD b 1 0 + 2)) ≡ adding i (nodeIn s p b)
-unfolding nodeIn adding listing snoc leafIn lengthIn
+unfolding nodeIn adding withList snoc leafIn lengthIn
 added-is s p i len (x ∷ y ∷ r) b h e =
     let said : len ≡ y / 2 = e ∙ list-length s (x ∷ y ∷ r) b p ∙ omega (arith, list-length s (x ∷ y ∷ r) b p) in
     let place : 2 + len ≡ suc (suc len) = omega arith in

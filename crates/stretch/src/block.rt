@@ -5,7 +5,7 @@ ghost use Prim.Native.Nat.{_+_, _<_, _≤_};
 ghost use lib.Ieee.{Float};
 ghost use lib.ListN.{length, getD, take, drop, replicate};
 ghost use Rattle.head.specs.Sizes.{blockWidth};
-ghost use Rattle.rules.specs.Tree.{adding, listing, under};
+ghost use Rattle.rules.specs.Tree.{adding, withList, under};
 ghost use Rattle.rules.specs.Slices.{parentOut, kindOut, nodeIn, blockOut, noParent};
 ghost use Rattle.stretch.specs.Blocks.{Block, parentOf, ParentFits, linked};
 use head::Settings;
@@ -123,7 +123,7 @@ pub fn link(s: Settings, parent: Parent, leaf: bool, list: &[u32], len: usize, b
 // The list of a block's node becomes the first len of a list.
 pub fn set_list(s: Settings, list: &[u32], len: usize, b: &mut [u32])
     requires { ⌜ Block s (now b) × (len + 2 ≤ blockWidth s) × (len ≤ length (now list)) ⌝ }
-    ensures { λ _. ⌜ ((p : List Float) → nodeIn s p (now (b .exit)) ≡ listing (take len (now (list .entry))) (nodeIn s p (now (b .entry)))) ⌝ }
+    ensures { λ _. ⌜ ((p : List Float) → nodeIn s p (now (b .exit)) ≡ withList (take len (now (list .entry))) (nodeIn s p (now (b .entry)))) ⌝ }
 {
     let leaf = is_leaf(s, b);
     b[1] = kind_word(leaf, len);

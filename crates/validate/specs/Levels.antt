@@ -10,7 +10,7 @@ use borrow.Author.Tests.{eq-eqb, ne-eqb}
 use lib.Dec.{eqb}
 use lib.ListN.{length, length-append}
 use Rattle.head.specs.declared.Settings.{Settings}
-use Rattle.rules.specs.Lists.{occurs, joined}
+use Rattle.rules.specs.Lists.{occurs, concat}
 use Rattle.rules.specs.Tree.{Tree, nodeAt}
 use Rattle.rules.specs.Check.{nextLevel, levelsFrom, levels}
 use Rattle.counting.specs.Count.{same?, is, is-other, below, below-in, below-lt, below-le, lt?}
@@ -29,15 +29,15 @@ over-some w (x ∷ l) h = go (lt? 0 (w x)) (λ q. over-some w l q)
     go (inr q) ih = let (i, o, p) = ih (omega arith) in (i, (let a = occurs-cons i x l in omega arith), p)
 
 -- each level has a node
-chain-long : (s : Settings) (t : Tree) (ls : List (List ℕ)) → Chain s t ls → length ls ≤ length (joined ls)
-unfolding joined
+chain-long : (s : Settings) (t : Tree) (ls : List (List ℕ)) → Chain s t ls → length ls ≤ length (concat ls)
+unfolding concat
 chain-long s t [] c = omega arith
 chain-long s t (l ∷ []) c = let a = length-append l [] in let b = c .0 in omega arith
-chain-long s t (l ∷ (m ∷ ls)) c = let a = length-append l (joined (m ∷ ls)) in let b = c .0 in let d = chain-long s t (m ∷ ls) (c .2) in omega arith
+chain-long s t (l ∷ (m ∷ ls)) c = let a = length-append l (concat (m ∷ ls)) in let b = c .0 in let d = chain-long s t (m ∷ ls) (c .2) in omega arith
 
 module _ (s : Settings) (t : Tree) (own : (i c : ℕ) → i < length (t .nodes) → nodeAt t i .leaf ≡ false → 0 < occurs c (nodeAt t i .list) →
     (nodeAt t c .parent ≡ some i) × (c < length (t .nodes)))
-    (long : length (joined (levels t)) ≡ length (t .nodes)) (once : (c : ℕ) → occurs c (joined (levels t)) ≡ below c (length (t .nodes))) where
+    (long : length (concat (levels t)) ≡ length (t .nodes)) (once : (c : ℕ) → occurs c (concat (levels t)) ≡ below c (length (t .nodes))) where
   abbrev rest : List (List ℕ)
   rest = levelsFrom t (length (t .nodes)) (nextLevel t (t .root ∷ []))
 
@@ -52,25 +52,25 @@ module _ (s : Settings) (t : Tree) (own : (i c : ℕ) → i < length (t .nodes) 
   unfolding levels
   chain = subst (Chain s t) all-are (uncut s t (suc (length (t .nodes))) (t .root ∷ []) (let l = long in omega arith))
 
-  once-all : (c : ℕ) → occurs c (joined all) ≡ below c (length (t .nodes))
-  once-all c = ap (λ ls. occurs c (joined ls)) (sym all-are) ∙ once c
+  once-all : (c : ℕ) → occurs c (concat all) ≡ below c (length (t .nodes))
+  once-all c = ap (λ ls. occurs c (concat ls)) (sym all-are) ∙ once c
 
   -- how often node i lists c as a node
   abbrev lists : ℕ → ℕ → ℕ
   lists c i = cond (nodeAt t i .leaf) 0 (over (is c) (nodeAt t i .list))
 
   -- a node that is not the root is listed once
-  listed-once : (c : ℕ) → c < length (t .nodes) → c ≢ t .root → over (lists c) (joined all) ≡ 1
+  listed-once : (c : ℕ) → c < length (t .nodes) → c ≢ t .root → over (lists c) (concat all) ≡ 1
   listed-once c h d =
       let a = listed-all s t (is c) (t .root ∷ []) rest chain in
-      let b = occurs-over c (joined all) in
+      let b = occurs-over c (concat all) in
       let e = once-all c in
       let f = below-in c (length (t .nodes)) h in
       let g : over (is c) (t .root ∷ []) ≡ is c (t .root) + 0 = unfold over in refl in
       let i = is-other c (t .root) d in
       omega arith
 
-  in-nodes : (i : ℕ) → 0 < occurs i (joined all) → i < length (t .nodes)
+  in-nodes : (i : ℕ) → 0 < occurs i (concat all) → i < length (t .nodes)
   in-nodes i o = below-lt i (length (t .nodes)) (let e = once-all i in omega arith)
 
   -- by the parent that it names
@@ -78,8 +78,8 @@ module _ (s : Settings) (t : Tree) (own : (i c : ℕ) → i < length (t .nodes) 
       → (p : ℕ) × (nodeAt t c .parent ≡ some p) × (p < length (t .nodes)) × (nodeAt t p .leaf ≡ false) × (occurs c (nodeAt t p .list) ≡ 1)
   hung c h d =
       let one = listed-once c h d in
-      let (p, o, w) = over-some (lists c) (joined all) (omega arith) in
-      let most = over-in (lists c) p (joined all) o in
+      let (p, o, w) = over-some (lists c) (concat all) (omega arith) in
+      let most = over-in (lists c) p (concat all) o in
       by p (in-nodes p o) (nodeAt t p .leaf) refl w (omega arith)
     where
       by : (p : ℕ) → p < length (t .nodes) → (b : Bool) → nodeAt t p .leaf ≡ b → 0 < cond b 0 (over (is c) (nodeAt t p .list)) → cond b 0
@@ -122,6 +122,6 @@ module _ (s : Settings) (t : Tree) (own : (i c : ℕ) → i < length (t .nodes) 
   reach c cn =
       let top = rank-top (t .root ∷ []) rest c in
       let levels-few = chain-long s t all chain in
-      let l : length (joined all) ≡ length (t .nodes) = ap (λ ls. length (joined ls)) (sym all-are) ∙ long in
+      let l : length (concat all) ≡ length (t .nodes) = ap (λ ls. length (concat ls)) (sym all-are) ∙ long in
       let q = climb (length rest - rank c) (length (t .nodes)) c cn (omega arith) (omega arith) in
       omega arith

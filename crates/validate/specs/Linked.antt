@@ -11,7 +11,7 @@ use lib.Ieee.Fits.{and-i, and-l, and-r, eq→eqb}
 use lib.ListN.{length}
 use Rattle.binary64.specs.Order.{same-test}
 use Rattle.head.specs.declared.Settings.{Settings}
-use Rattle.rules.specs.Lists.{every, upFrom, occurs, joined}
+use Rattle.rules.specs.Lists.{every, upFrom, occurs, concat}
 use Rattle.rules.specs.Tree.{Tree, blankNode, nodeAt, cap}
 use Rattle.rules.specs.Check.{orphan, rooted, known, listFits, levels, onceEach, names, ownList, leafLists, linked}
 use Rattle.counting.specs.Count.{same?, below, below-in, below-lt}
@@ -74,19 +74,19 @@ module _ (s : Settings) (t : Tree) (h2 : T (rooted t)) (h3 : T (every (listFits 
   -- ---- from the levels to climbing
 
   module _ (h4 : T (linked t)) where
-    once-nodes : T (onceEach (length (t .nodes)) (joined (levels t)))
+    once-nodes : T (onceEach (length (t .nodes)) (concat (levels t)))
     unfolding linked
     once-nodes =
-        and-l (onceEach (length (t .nodes)) (joined (levels t))) (every (ownList t) (upFrom (length (t .nodes)) 0))
-        (and-l (onceEach (length (t .nodes)) (joined (levels t)) && every (ownList t) (upFrom (length (t .nodes)) 0))
+        and-l (onceEach (length (t .nodes)) (concat (levels t))) (every (ownList t) (upFrom (length (t .nodes)) 0))
+        (and-l (onceEach (length (t .nodes)) (concat (levels t)) && every (ownList t) (upFrom (length (t .nodes)) 0))
         (onceEach (length (t .entries)) (leafLists (t .nodes))) h4)
 
     each-owns : (i : ℕ) → i < length (t .nodes) → T (ownList t i)
     unfolding linked
     each-owns i h =
         up-at (ownList t) (length (t .nodes)) 0
-        (and-r (onceEach (length (t .nodes)) (joined (levels t))) (every (ownList t) (upFrom (length (t .nodes)) 0))
-        (and-l (onceEach (length (t .nodes)) (joined (levels t)) && every (ownList t) (upFrom (length (t .nodes)) 0))
+        (and-r (onceEach (length (t .nodes)) (concat (levels t))) (every (ownList t) (upFrom (length (t .nodes)) 0))
+        (and-l (onceEach (length (t .nodes)) (concat (levels t)) && every (ownList t) (upFrom (length (t .nodes)) 0))
         (onceEach (length (t .entries)) (leafLists (t .nodes))) h4))
         i (omega arith) (omega arith)
 
@@ -94,11 +94,11 @@ module _ (s : Settings) (t : Tree) (h2 : T (rooted t)) (h3 : T (every (listFits 
         (c < length (t .nodes))
     own i c h e o = owned i c (each-owns i h) h e o
 
-    once-all : (c : ℕ) → occurs c (joined (levels t)) ≡ below c (length (t .nodes))
-    once-all = once-back (length (t .nodes)) (joined (levels t)) once-nodes
+    once-all : (c : ℕ) → occurs c (concat (levels t)) ≡ below c (length (t .nodes))
+    once-all = once-back (length (t .nodes)) (concat (levels t)) once-nodes
 
-    long : length (joined (levels t)) ≡ length (t .nodes)
-    long = once-length (length (t .nodes)) (joined (levels t)) once-all
+    long : length (concat (levels t)) ≡ length (t .nodes)
+    long = once-length (length (t .nodes)) (concat (levels t)) once-all
 
     hangs-so : (c : ℕ) → c < length (t .nodes) → T (hangs t c)
     unfolding hangs hangsFrom
@@ -154,10 +154,10 @@ module _ (s : Settings) (t : Tree) (h2 : T (rooted t)) (h3 : T (every (listFits 
       reach = (λ c h. ltb→lt (depth t c) (length (t .nodes)) (climbs-at c h .2));
     }
 
-    pub climbs-levels : T (onceEach (length (t .nodes)) (joined (levels t))) × T (every (ownList t) (upFrom (length (t .nodes)) 0))
+    pub climbs-levels : T (onceEach (length (t .nodes)) (concat (levels t))) × T (every (ownList t) (upFrom (length (t .nodes)) 0))
     climbs-levels =
         let once = each-once t hung-tree in (
-          once-each (length (t .nodes)) (joined (levels t)) (once-length (length (t .nodes)) (joined (levels t)) once) once,
+          once-each (length (t .nodes)) (concat (levels t)) (once-length (length (t .nodes)) (concat (levels t)) once) once,
           every-up (ownList t)
               (length (t .nodes)) 0 (λ c h. climbs-at c (omega arith) .0),
         )
@@ -172,10 +172,10 @@ module _ (s : Settings) (t : Tree) (h2 : T (rooted t)) (h3 : T (every (listFits 
       down : T (linked t) → T (climbs t && onceEach (length (t .entries)) (leafLists (t .nodes)))
       down h =
           and-i (climbs t) _ (linked-climbs h)
-          (unfold linked in and-r (onceEach (length (t .nodes)) (joined (levels t)) && every (ownList t) (upFrom (length (t .nodes)) 0)) _ h)
+          (unfold linked in and-r (onceEach (length (t .nodes)) (concat (levels t)) && every (ownList t) (upFrom (length (t .nodes)) 0)) _ h)
 
       up : T (climbs t && onceEach (length (t .entries)) (leafLists (t .nodes))) → T (linked t)
       up h =
           let q = climbs-levels (and-l (climbs t) _ h) in
-          unfold linked in and-i (onceEach (length (t .nodes)) (joined (levels t)) && every (ownList t) (upFrom (length (t .nodes)) 0)) _
-          (and-i (onceEach (length (t .nodes)) (joined (levels t))) _ (q .0) (q .1)) (and-r (climbs t) _ h)
+          unfold linked in and-i (onceEach (length (t .nodes)) (concat (levels t)) && every (ownList t) (upFrom (length (t .nodes)) 0)) _
+          (and-i (onceEach (length (t .nodes)) (concat (levels t))) _ (q .0) (q .1)) (and-r (climbs t) _ h)

@@ -5,7 +5,7 @@ use mathlib.Core.Logic.{_⊎_, inl, inr, _≢_}
 use mathlib.Core.List.{List, [], _∷_}
 use native.Mathlib.Omega.{arith}
 use lib.ListN.{length}
-use Rattle.rules.specs.Lists.{occurs, joined}
+use Rattle.rules.specs.Lists.{occurs, concat}
 use Rattle.rules.specs.Tree.{Tree}
 use Rattle.rules.specs.Check.{nextLevel, levelsFrom, levels}
 use Rattle.counting.specs.Count.{same?, below, below-in, below-out, lt?}
@@ -19,8 +19,8 @@ module _ (t : Tree) (u : Hung t) where
   among zero k c = 0
   among (suc n) k c = standsAt t k c + among n (suc k) c
 
-  levels-among : (n k : ℕ) (l : List ℕ) → Level t k l → (c : ℕ) → occurs c (joined (levelsFrom t n l)) ≡ among n k c
-  unfolding levelsFrom joined among nextLevel
+  levels-among : (n k : ℕ) (l : List ℕ) → Level t k l → (c : ℕ) → occurs c (concat (levelsFrom t n l)) ≡ among n k c
+  unfolding levelsFrom concat among nextLevel
   levels-among zero k l h c = unfold occurs in refl
   levels-among (suc n) k [] h c = empty (suc n) k h
     where
@@ -32,7 +32,7 @@ module _ (t : Tree) (u : Hung t) where
           let z : occurs c [] ≡ 0 = unfold occurs in refl in
           omega arith
   levels-among (suc n) k (i ∷ l) h c =
-      let a = occurs-append c (i ∷ l) (joined (levelsFrom t n (nextLevel t (i ∷ l)))) in
+      let a = occurs-append c (i ∷ l) (concat (levelsFrom t n (nextLevel t (i ∷ l)))) in
       let b = levels-among n (suc k) (nextLevel t (i ∷ l)) (next-level t u k (i ∷ l) h) c in
       let d = h c in
       omega arith
@@ -58,7 +58,7 @@ module _ (t : Tree) (u : Hung t) where
       go (inr e) ih = let a = stands-elsewhere t k c e in let b = ih (omega arith) (omega arith) in omega arith
 
   -- every node once, and no other number
-  pub each-once : (c : ℕ) → occurs c (joined (levels t)) ≡ below c (length (t .nodes))
+  pub each-once : (c : ℕ) → occurs c (concat (levels t)) ≡ below c (length (t .nodes))
   unfolding levels
   each-once c = levels-among (suc (length (t .nodes))) 0 (t .root ∷ []) (root-level t u) c ∙ go (lt? c (length (t .nodes)))
     where

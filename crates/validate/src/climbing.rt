@@ -10,7 +10,7 @@ ghost use Rattle.rules.specs.Check.{names, ownList};
 ghost use Rattle.stretch.specs.Blocks.{parentOf};
 ghost use Rattle.arena.specs.Trees.{AnyFloats, Links};
 ghost use Rattle.validate.specs.Climbing.{hangsFrom, hangs, stepsUp, depth, meetsRoot, meeting};
-ghost use Rattle.lists.specs.Lent.{Listed, Inner};
+ghost use Rattle.lists.specs.Lent.{ListsFit, Inner};
 use arena::links;
 use head::Counters;
 use head::Settings;
@@ -105,7 +105,7 @@ fn names(i: usize, p: Parent) -> bool
 
 // Whether every node of inner node i's list names it.
 fn named_by_list(s: Settings, n: Counters, links: &[u32], i: usize) -> bool
-    requires { ⌜ Links s n (length (now links)) × Listed s n (now links) × (i < n .nodes) × Inner s n (now links) i ⌝ }
+    requires { ⌜ Links s n (length (now links)) × ListsFit s n (now links) × (i < n .nodes) × Inner s n (now links) i ⌝ }
     ensures { λ r. ⌜ AnyFloats s n (now (links .entry)) (λ t. r ≡ every (λ c. names i (nodeAt t c .parent)) (nodeAt t i .list)) ⌝ }
 {
     let len = links::list_len(s, n, links, i);
@@ -122,7 +122,7 @@ fn named_by_list(s: Settings, n: Counters, links: &[u32], i: usize) -> bool
 
 // Whether the nodes that node i lists name it as their parent.
 fn own_list(s: Settings, n: Counters, links: &[u32], i: usize) -> bool
-    requires { ⌜ Links s n (length (now links)) × Listed s n (now links) × (i < n .nodes) ⌝ }
+    requires { ⌜ Links s n (length (now links)) × ListsFit s n (now links) × (i < n .nodes) ⌝ }
     ensures { λ r. ⌜ AnyFloats s n (now (links .entry)) (λ t. r ≡ ownList t i) ⌝ }
 {
     if links::is_leaf(s, n, links, i) {
@@ -159,7 +159,7 @@ fn meets_root(s: Settings, n: Counters, links: &[u32], i: usize) -> bool
 
 // Whether the nodes that node i lists name it, and it hangs once and leads to the root.
 fn meets_at(s: Settings, n: Counters, links: &[u32], i: usize) -> bool
-    requires { ⌜ Links s n (length (now links)) × Listed s n (now links) × (n .root < n .nodes) × (i < n .nodes) ⌝ }
+    requires { ⌜ Links s n (length (now links)) × ListsFit s n (now links) × (n .root < n .nodes) × (i < n .nodes) ⌝ }
     ensures { λ r. ⌜ AnyFloats s n (now (links .entry)) (λ t. r ≡ ownList t i && (hangs t i && meetsRoot t i)) ⌝ }
 {
     if !own_list(s, n, links, i) {
@@ -173,7 +173,7 @@ fn meets_at(s: Settings, n: Counters, links: &[u32], i: usize) -> bool
 
 // Whether every node of a list names its owner, hangs once and leads to the root.
 pub fn meeting(s: Settings, n: Counters, links: &[u32]) -> bool
-    requires { ⌜ Links s n (length (now links)) × Listed s n (now links) × (n .root < n .nodes) ⌝ }
+    requires { ⌜ Links s n (length (now links)) × ListsFit s n (now links) × (n .root < n .nodes) ⌝ }
     ensures { λ r. ⌜ AnyFloats s n (now (links .entry)) (λ t. r ≡ meeting t) ⌝ }
 {
     let mut i = 0;

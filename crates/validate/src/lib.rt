@@ -11,14 +11,14 @@ ghost use Rattle.rules.specs.Check.{checked};
 ghost use Rattle.rules.specs.Slices.{treeOf};
 ghost use Rattle.arena.specs.Trees.{AnyFloats, Links};
 ghost use Rattle.validate.specs.Examined.{hung};
-ghost use Rattle.lists.specs.Lent.{Listed};
+ghost use Rattle.lists.specs.Lent.{ListsFit};
 use head::Counters;
 use head::Settings;
 use rules::Verdict;
 
 // Condition 4: every node is reached from the root once, by the parent it names; every entry is in one leaf list, once.
 fn hung(s: Settings, n: Counters, links: &[u32]) -> bool
-    requires { ⌜ Links s n (length (now links)) × Listed s n (now links) × (n .entries ≤ 256) × (n .root < n .nodes) ⌝ }
+    requires { ⌜ Links s n (length (now links)) × ListsFit s n (now links) × (n .entries ≤ 256) × (n .root < n .nodes) ⌝ }
     ensures { λ r. ⌜ AnyFloats s n (now (links .entry)) (λ t. r ≡ hung t) ⌝ }
 {
     if !crate::climbing::meeting(s, n, links) {

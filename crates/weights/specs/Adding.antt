@@ -8,14 +8,14 @@ use lib.ListN.{length}
 use Rattle.binary64.specs.Counts.{isCount}
 use Rattle.binary64.specs.Whole.{whole, most}
 use Rattle.rules.specs.Lists.{every, upFrom}
-use Rattle.rules.specs.Tree.{Tree, nodeAt, child, rowsIn}
+use Rattle.rules.specs.Tree.{Tree, nodeAt, child, rowCount}
 use Rattle.rules.specs.Check.{totalOf}
 
 unfoldable pub rowsListed : Tree → ℕ → ℕ
 rowsListed t i = totalOf (map (child t (nodeAt t i .leaf)) (nodeAt t i .list))
 
 unfoldable pub addsUp : Tree → ℕ → Bool
-addsUp t i = eqb (rowsIn (nodeAt t i .summary)) (rowsListed t i)
+addsUp t i = eqb (rowCount (nodeAt t i .summary)) (rowsListed t i)
 
 -- all weights are counts before any are added, so no sum is over 64 bits
 unfoldable pub nodesAddUp : Tree → Bool

@@ -16,24 +16,24 @@ use Rattle.binary64.specs.Range.{Ranged, ranged}
 use Rattle.feature.specs.Summaries.{blank}
 use Rattle.head.specs.declared.Settings.{Settings}
 use Rattle.head.specs.declared.Counters.{Counters}
-use Rattle.rules.specs.Tree.{Tree, blankNode, nodeAt, entryAt, child, rowsIn}
+use Rattle.rules.specs.Tree.{Tree, blankNode, nodeAt, entryAt, child, rowCount}
 use Rattle.rules.specs.Check.{known, totalOf}
 use Rattle.rules.specs.Slices.{treeOf}
 use Rattle.arena.specs.Trees.{Floats, Links, ChildIn, count-nodes, count-entries}
 use Rattle.counting.specs.Sums.{sumTo}
 use Rattle.laws.specs.Check.Passing.{entries-sum}
-use Rattle.lists.specs.Lent.{Listed, EntriesCount, NodesCount, holds, listed-in}
+use Rattle.lists.specs.Lent.{ListsFit, EntriesCount, NodesCount, holds, listed-in}
 use Rattle.counting.specs.Tests.{every-at}
 
 -- the rows in what place k of node i's list names
 unfoldable pub rowsAt : Tree → ℕ → ℕ → ℕ
-rowsAt t i k = rowsIn (child t (nodeAt t i .leaf) (getD (nodeAt t i .list) k 0))
+rowsAt t i k = rowCount (child t (nodeAt t i .leaf) (getD (nodeAt t i .list) k 0))
 
 -- what the sums of condition 7 lean on: room, lists that name what is there, and weights that are counts
 pub record Weighable (s : Settings) (n : Counters) (fs : List Float) (ls : List ℕ) : Type 0 where
   pub floats : Floats s n (length fs)
   pub links : Links s n (length ls)
-  pub listed : Listed s n ls
+  pub listed : ListsFit s n ls
   pub entries : EntriesCount s n fs
   pub nodes : NodesCount s n fs
 
@@ -91,6 +91,6 @@ told-none false n e = refl
 
 -- the rows of the entries, one by one
 pub total-placed : (s : Settings) (n : Counters) (fs : List Float) (ls : List ℕ)
-    → totalOf (treeOf s n fs ls .entries) ≡ sumTo (λ e. rowsIn (entryAt (treeOf s n fs ls) e)) (n .entries)
+    → totalOf (treeOf s n fs ls .entries) ≡ sumTo (λ e. rowCount (entryAt (treeOf s n fs ls) e)) (n .entries)
 unfolding entryAt
-total-placed s n fs ls = entries-sum blank (treeOf s n fs ls .entries) ∙ ap (sumTo (λ e. rowsIn (entryAt (treeOf s n fs ls) e))) (count-entries s n fs ls)
+total-placed s n fs ls = entries-sum blank (treeOf s n fs ls .entries) ∙ ap (sumTo (λ e. rowCount (entryAt (treeOf s n fs ls) e))) (count-entries s n fs ls)

@@ -18,7 +18,7 @@ use Rattle.feature.specs.declared.Summary.{Summary}
 use Rattle.feature.specs.Summaries.{blank}
 use Rattle.head.specs.declared.Settings.{Settings}
 use Rattle.rules.specs.Lists.{every, upFrom}
-use Rattle.rules.specs.Tree.{Tree, nodeAt, entryAt, blankNode, child, rowsIn}
+use Rattle.rules.specs.Tree.{Tree, nodeAt, entryAt, blankNode, child, rowCount}
 use Rattle.rules.specs.Check.{rooted, listFits, linked, loneRoot, filled, level, totalOf, weighs, weighed, Binary64}
 use Rattle.rules.specs.Reinsert.{collected}
 use Rattle.counting.specs.Count.{same?}
@@ -51,7 +51,7 @@ blank-total : (t : Tree) → length (t .entries) ≡ 0 → (cs : List ℕ) → t
 unfolding totalOf entryAt
 blank-total t e [] = refl
 blank-total t e (c ∷ cs) =
-    let a = blank-total t e cs in let b : rowsIn (getD (t .entries) c blank) ≡ 0 = ap rowsIn (none (t .entries) e)
+    let a = blank-total t e cs in let b : rowCount (getD (t .entries) c blank) ≡ 0 = ap rowCount (none (t .entries) e)
     ∙ exact-count blank 0 blank-exact in omega arith
   where
     none : (l : List Summary) → length l ≡ 0 → getD l c blank ≡ blank
@@ -96,22 +96,22 @@ module _ (s : Settings) (t : Tree) (h2 : T (rooted t)) (h3 : T (every (listFits 
         and-i (every (λ n. isCount (n .summary .weight)) (t .nodes)) (every (addsUp t) (upFrom (length (t .nodes)) 0))
         (every-list (λ n. isCount (n .summary .weight)) blankNode (t .nodes) (λ k l. let q =
         w .exact .at-node k l in subst T (sym
-        (counts-test (nodeAt t k .summary .weight) (rowsIn (nodeAt t k .summary)) (record { some = node-some g lent h7 k l; few = q .1; is = q .0 }))) tt))
+        (counts-test (nodeAt t k .summary .weight) (rowCount (nodeAt t k .summary)) (record { some = node-some g lent h7 k l; few = q .1; is = q .0 }))) tt))
         (every-up (addsUp t) (length (t .nodes)) 0 (λ k l. eq→eqb (w .weighs .sums k (omega arith) ∙ sym (rows-own t k))))
 
     -- ---- from the lists to document 01
 
     module _ (counts : T (every (λ e. isCount (e .weight)) (t .entries))) (small : T (leb (totalOf (t .entries)) most)) (adds : T (nodesAddUp t)) where
-      node-counts : (k : ℕ) → k < length (t .nodes) → Counts (nodeAt t k .summary .weight) (rowsIn (nodeAt t k .summary))
-      unfolding nodesAddUp nodeAt rowsIn
+      node-counts : (k : ℕ) → k < length (t .nodes) → Counts (nodeAt t k .summary .weight) (rowCount (nodeAt t k .summary))
+      unfolding nodesAddUp nodeAt rowCount
       node-counts k l =
           count-laws (nodeAt t k .summary .weight) (lent .nodes-fit k l)
           (is-true (isCount (nodeAt t k .summary .weight))
           (every-at (λ n. isCount (n .summary .weight)) blankNode (t .nodes)
           (and-l (every (λ n. isCount (n .summary .weight)) (t .nodes)) (every (addsUp t) (upFrom (length (t .nodes)) 0)) adds) k l))
 
-      entry-counts : (c : ℕ) → c < length (t .entries) → Counts (entryAt t c .weight) (rowsIn (entryAt t c))
-      unfolding entryAt rowsIn
+      entry-counts : (c : ℕ) → c < length (t .entries) → Counts (entryAt t c .weight) (rowCount (entryAt t c))
+      unfolding entryAt rowCount
       entry-counts c l =
           count-laws (entryAt t c .weight) (lent .entries-fit c l)
           (is-true (isCount (entryAt t c .weight)) (every-at (λ e. isCount (e .weight)) blank (t .entries) counts c l))
@@ -119,7 +119,7 @@ module _ (s : Settings) (t : Tree) (h2 : T (rooted t)) (h3 : T (every (listFits 
       sums : (k : ℕ) → k < length (t .nodes) → nodeWeight t k ≡ own (nodeAt t k) (entryWeight t) (nodeWeight t)
       unfolding nodesAddUp addsUp nodeWeight
       sums k l =
-          eqb→eq (rowsIn (nodeAt t k .summary)) (rowsListed t k) (up-at (addsUp t) (length (t .nodes)) 0
+          eqb→eq (rowCount (nodeAt t k .summary)) (rowsListed t k) (up-at (addsUp t) (length (t .nodes)) 0
           (and-r (every (λ n. isCount (n .summary .weight)) (t .nodes)) (every (addsUp t) (upFrom (length (t .nodes)) 0)) adds) k (omega arith) (omega arith))
           ∙ rows-own t k
 

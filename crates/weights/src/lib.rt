@@ -11,7 +11,7 @@ ghost use Rattle.rules.specs.Check.{totalOf};
 ghost use Rattle.rules.specs.Slices.{treeOf};
 ghost use Rattle.arena.specs.Trees.{AnyFloats, AnyLinks, Floats, Links};
 ghost use Rattle.weights.specs.Adding.{rowsListed, addsUp, nodesAddUp, weighsNothing, summed};
-ghost use Rattle.lists.specs.Lent.{Listed, EntriesCount};
+ghost use Rattle.lists.specs.Lent.{ListsFit, EntriesCount};
 ghost use Rattle.weights.specs.Weighable.{Weighable, rowsAt};
 use arena::children;
 use arena::entries;
@@ -134,7 +134,7 @@ fn all_add_up(s: Settings, n: Counters, floats: &[f64], links: &[u32]) -> bool
 
 // Whether every node weighs a count, and what its list weighs.
 fn nodes_add_up(s: Settings, n: Counters, floats: &[f64], links: &[u32]) -> bool
-    requires { ⌜ Floats s n (length (now floats)) × Links s n (length (now links)) × Listed s n (now links) × EntriesCount s n (now floats) ⌝ }
+    requires { ⌜ Floats s n (length (now floats)) × Links s n (length (now links)) × ListsFit s n (now links) × EntriesCount s n (now floats) ⌝ }
     ensures { λ r. ⌜ r ≡ nodesAddUp (treeOf s n (now (floats .entry)) (now (links .entry))) ⌝ }
 {
     if !nodes_count(s, n, floats) {
@@ -153,7 +153,7 @@ fn weighs_nothing(s: Settings, n: Counters, floats: &[f64]) -> bool
 
 // Condition 7: entry weights are whole, 1 to 2^53; each node's weight is the sum of those beneath it; the total is at most 2^53.
 pub fn summed(s: Settings, n: Counters, floats: &[f64], links: &[u32]) -> bool
-    requires { ⌜ Floats s n (length (now floats)) × Links s n (length (now links)) × Listed s n (now links) × (n .root < n .nodes) ⌝ }
+    requires { ⌜ Floats s n (length (now floats)) × Links s n (length (now links)) × ListsFit s n (now links) × (n .root < n .nodes) ⌝ }
     ensures { λ r. ⌜ r ≡ summed (treeOf s n (now (floats .entry)) (now (links .entry))) ⌝ }
 {
     if !entries_count(s, n, floats) {

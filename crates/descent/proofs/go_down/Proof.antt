@@ -7,7 +7,7 @@ use borrow.Author.Needs.{needs}
 use Rattle.rules.specs.Slices.{treeOf}
 use Rattle.rules.specs.Descent.{closest, descended, leafFor}
 use Rattle.descent.specs.Forms.{itemOf, nodeDistance}
-use Rattle.listed.specs.Sure.{root-there, list-filled, children-in}
+use Rattle.bounds.specs.Sure.{root-there, list-filled, children-in}
 use Rattle.descent.specs.Paths.{down-start, down-leaf, down-on, down-end}
 use Rattle.descent.proofs.go_down.Statement.{statement}
 use Rattle.descent.proofs.go_down.Tie as tie

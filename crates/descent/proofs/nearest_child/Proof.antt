@@ -8,7 +8,7 @@ use lib.ListN.{length}
 use Rattle.rules.specs.Descent.{closest}
 use Rattle.arena.specs.Trees.{AnyLinks}
 use Rattle.descent.specs.Forms.{nodeDistance}
-use Rattle.listed.specs.Sure.{node-listed}
+use Rattle.bounds.specs.Sure.{node-listed}
 use Rattle.descent.specs.Nearest.{nearestFrom, nearest-start, nearest-taken, nearest-left, nearest-end}
 use Rattle.descent.proofs.nearest_child.Statement.{statement}
 use Rattle.descent.proofs.nearest_child.Tie as tie

@@ -1,9 +1,9 @@
--- `feature::join` meets its contract: its calls give the means and the deviations of `joined`, and an array of 8 is long enough for dim.
+-- `feature::join` meets its contract: its calls give the means and the deviations of `blended`, and an array of 8 is long enough for dim.
 use mathlib.Core.Path.{_≡_}
 use native.Mathlib.Omega.{arith}
 use borrow.Author.Needs.{needs}
 use lib.ListN.{length}
-use Rattle.feature.specs.Steps.{joined}
+use Rattle.feature.specs.Steps.{blended}
 use Rattle.feature.specs.Summaries.{slots-few}
 use Rattle.feature.proofs.join.Statement.{statement}
 use Rattle.feature.proofs.join.Tie as tie
@@ -24,7 +24,7 @@ deviate-requires : tie.Need-deviate-requires
 deviate-requires c κs = let l = eight (start (c .before .before)) in (search needs, omega arith)
 
 returns : tie.Need-returns
-unfolding joined
+unfolding blended
 returns c =
     let s = c .before .before .before .before in
     rw (c .deviate .ensures, c .before .before .moved .ensures, s .both .ensures, s .before .slots .ensures)

@@ -55,8 +55,8 @@ place-requires c κs =
       row-place (a .s) (a .n) (a .floats .now) _ (a .links .now) (a .row .now) _ (start .pre .1) (leaf down) (down .descend .ensures .1) (path fed),
     )
 
-settle-requires : tie.Need-settle-requires
-settle-requires c κs =
+split-if-over-requires : tie.Need-split-if-over-requires
+split-if-over-requires c κs =
     let placed = c .before .before .before .before .before .before in
     let fed = fed placed in
     let down = found fed in
@@ -70,7 +70,7 @@ settle-requires c κs =
 
 returns : tie.Need-returns
 returns c =
-    let split = c .before .before .before .before .settle in
+    let split = c .before .before .before .before .split-if-over in
     let placed = c .before .before .before .before .before .before .before .before .before .before .before in
     let fed = fed placed in
     let down = found fed in
@@ -85,4 +85,4 @@ returns c =
     )
 
 pub grow-spec : {M : Type 1} → statement M
-grow-spec = tie.close (tie.spec descend-requires feed-path-requires place-requires settle-requires (λ c. search needs) (λ c. search needs) returns)
+grow-spec = tie.close (tie.spec descend-requires feed-path-requires place-requires split-if-over-requires (λ c. search needs) (λ c. search needs) returns)

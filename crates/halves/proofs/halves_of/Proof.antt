@@ -8,7 +8,7 @@ use Rattle.rules.specs.Slices.{treeOf}
 use Rattle.rules.specs.Split.{side}
 use Rattle.rules.specs.Tree.{child}
 use Rattle.arena.specs.Trees.{AnyLinks}
-use Rattle.halves.specs.Halves.{Placed, placed-start, placed-first, placed-second, placed-end}
+use Rattle.halves.specs.Halves.{Dealt, placed-start, placed-first, placed-second, placed-end}
 use Rattle.halves.proofs.halves_of.Statement.{statement}
 use Rattle.halves.proofs.halves_of.Tie as tie
 
@@ -16,7 +16,7 @@ abbrev Inv-loop : tie.InvT-loop
 Inv-loop s n floats leaf list w one₀ two₀ ones₀ twos₀ k₀ one two ones twos k =
     (k ≤ length list) × (ones + twos ≡ k) × (length one ≡ 17) × (length two ≡ 17)
     × AnyLinks s n floats (λ t.
-    Placed (side s (w .a) (w .b) (child t leaf (getD list (w .a) 0)) (child t leaf (getD list (w .b) 0))) (child t leaf) list k one ones two twos)
+    Dealt (side s (w .a) (w .b) (child t leaf (getD list (w .a) 0)) (child t leaf (getD list (w .b) 0))) (child t leaf) list k one ones two twos)
 
 abbrev μ-loop : tie.MeasureT-loop
 μ-loop s n floats leaf list w one₀ two₀ ones₀ twos₀ k₀ one two ones twos k = length list - k

@@ -8,7 +8,7 @@ use Rattle.rules.specs.Tree.{Tree}
 use Rattle.rules.specs.Slices.{treeOf}
 use Rattle.insert.specs.Batch.{Batch, batch-start, batch-one, batch-next, batch-end}
 use Rattle.insert.specs.Resting.{rest-one}
-use Rattle.rows.specs.Rows.{rowOf, row-in, row-wide}
+use Rattle.rows.specs.Rows.{rowOf, row-there, row-wide}
 use Rattle.arena.specs.Trees.{Floats, Links}
 use Rattle.insert.proofs.insert_all.Statement.{statement}
 use Rattle.rules.specs.Rows.{inserted}
@@ -48,7 +48,7 @@ row-requires c κs =
     let start = c .before .before .before .before .before .before .before .before .before .before .before in
     let loop = c .before .before .before .before .before .loop in
     let more = c .before .before .before .before .loop-test in
-    row-in (start .args .s) (start .args .count) (loop .k) (length (start .args .rows .now)) (more .taken) (start .pre .1 .0)
+    row-there (start .args .s) (start .args .count) (loop .k) (length (start .args .rows .now)) (more .taken) (start .pre .1 .0)
 
 insert-requires : tie.Need-insert-requires Inv-loop μ-loop
 insert-requires c κs =
@@ -56,7 +56,7 @@ insert-requires c κs =
     let more = c .before .before .before .before .before .loop-test in
     let a = start .args in
     let l = c .before .before .before .before .before .before .loop in
-    let there = row-in (a .s) (a .count) (l .k) (length (a .rows .now)) (more .taken) (start .pre .1 .0) in
+    let there = row-there (a .s) (a .count) (l .k) (length (a .rows .now)) (more .taken) (start .pre .1 .0) in
     let wide = row-wide (a .s) (a .rows .now) (l .k) there in
     let batch = l .inv .6 in (
       (l .inv .0, l .inv .1, rw (l .inv .4, l .inv .5) (start .pre .0 .2)),

@@ -11,7 +11,7 @@ use lib.Dec.{T, leb, ltb, eqb, leb→le, ltb→lt, eqb→eq}
 use lib.Ieee.Fits.{and-l, and-r}
 use lib.ListN.{length, getD}
 use Rattle.head.specs.declared.Settings.{Settings}
-use Rattle.rules.specs.Lists.{upFrom, every, occurs, joined}
+use Rattle.rules.specs.Lists.{upFrom, every, occurs, concat}
 use Rattle.rules.specs.Tree.{Tree, nodeAt, blankNode, cap}
 use Rattle.rules.specs.Check.{onceEach, orphan, names, rooted, listFits, nextLevel, levelsFrom, levels, ownList, leafLists, linked, loneRoot, filled}
 use Rattle.rules.specs.Check.{sameKind, growing, level, known}
@@ -109,49 +109,49 @@ module _ (s : Settings) (t : Tree) (h2 : T (rooted t)) (h3 : T (every (listFits 
   unfolding levels levelsFrom rest
   shape = refl
 
-  once-nodes : T (onceEach (length (t .nodes)) (joined (levels t)))
+  once-nodes : T (onceEach (length (t .nodes)) (concat (levels t)))
   unfolding linked
   once-nodes =
-      and-l (onceEach (length (t .nodes)) (joined (levels t))) (every (ownList t) (upFrom (length (t .nodes)) 0)) (and-l
-      (onceEach (length (t .nodes)) (joined (levels t)) && every (ownList t) (upFrom (length (t .nodes)) 0)) (onceEach (length (t .entries))
+      and-l (onceEach (length (t .nodes)) (concat (levels t))) (every (ownList t) (upFrom (length (t .nodes)) 0)) (and-l
+      (onceEach (length (t .nodes)) (concat (levels t)) && every (ownList t) (upFrom (length (t .nodes)) 0)) (onceEach (length (t .entries))
       (leafLists (t .nodes))) h4)
 
   owns : T (every (ownList t) (upFrom (length (t .nodes)) 0))
   unfolding linked
   owns =
-      and-r (onceEach (length (t .nodes)) (joined (levels t))) (every (ownList t) (upFrom (length (t .nodes)) 0)) (and-l
-      (onceEach (length (t .nodes)) (joined (levels t)) && every (ownList t) (upFrom (length (t .nodes)) 0)) (onceEach (length (t .entries))
+      and-r (onceEach (length (t .nodes)) (concat (levels t))) (every (ownList t) (upFrom (length (t .nodes)) 0)) (and-l
+      (onceEach (length (t .nodes)) (concat (levels t)) && every (ownList t) (upFrom (length (t .nodes)) 0)) (onceEach (length (t .entries))
       (leafLists (t .nodes))) h4)
 
   once-entries : T (onceEach (length (t .entries)) (leafLists (t .nodes)))
   unfolding linked
   once-entries =
-      and-r (onceEach (length (t .nodes)) (joined (levels t)) && every (ownList t) (upFrom (length (t .nodes)) 0))
+      and-r (onceEach (length (t .nodes)) (concat (levels t)) && every (ownList t) (upFrom (length (t .nodes)) 0))
       (onceEach (length (t .entries)) (leafLists (t .nodes))) h4
 
-  J-once : (c : ℕ) → occurs c (joined (levels t)) ≡ below c (length (t .nodes))
-  J-once = once-back (length (t .nodes)) (joined (levels t)) once-nodes
+  J-once : (c : ℕ) → occurs c (concat (levels t)) ≡ below c (length (t .nodes))
+  J-once = once-back (length (t .nodes)) (concat (levels t)) once-nodes
 
-  J-one : (c : ℕ) → occurs c (joined (levels t)) ≤ 1
+  J-one : (c : ℕ) → occurs c (concat (levels t)) ≤ 1
   J-one c = let a = J-once c in let b = below-le c (length (t .nodes)) in omega arith
 
-  J-in : (c : ℕ) → c < length (t .nodes) → 0 < occurs c (joined (levels t))
+  J-in : (c : ℕ) → c < length (t .nodes) → 0 < occurs c (concat (levels t))
   J-in c l = let a = J-once c in let b = below-in c (length (t .nodes)) l in omega arith
 
-  J-over : (v : ℕ → ℕ) → over v (joined (levels t)) ≡ sumTo v (length (t .nodes))
+  J-over : (v : ℕ → ℕ) → over v (concat (levels t)) ≡ sumTo v (length (t .nodes))
   J-over v =
-      over-sum v (length (t .nodes)) (joined (levels t)) (λ c o. below-lt c (length (t .nodes)) (let a = J-once c in omega arith))
-      ∙ sum-same v (λ c. occurs c (joined (levels t)) * v c) (length (t .nodes))
+      over-sum v (length (t .nodes)) (concat (levels t)) (λ c o. below-lt c (length (t .nodes)) (let a = J-once c in omega arith))
+      ∙ sum-same v (λ c. occurs c (concat (levels t)) * v c) (length (t .nodes))
       (λ c q. ap (λ z. z * v c) (J-once c ∙ below-in c (length (t .nodes)) q) ∙ one-mul (v c))
 
   chain : Chain s t (levels t)
   unfolding levels
   chain = uncut s t (suc (length (t .nodes))) (t .root ∷ []) (let a = len in omega arith)
     where
-      len : length (joined (levelsFrom t (suc (length (t .nodes))) (t .root ∷ []))) ≡ length (t .nodes)
+      len : length (concat (levelsFrom t (suc (length (t .nodes))) (t .root ∷ []))) ≡ length (t .nodes)
       len =
-          unfold levels onceEach in eqb→eq (length (joined (levels t))) (length (t .nodes)) (and-l (eqb (length (joined (levels t))) (length (t .nodes)))
-          (every (λ i. eqb (occurs i (joined (levels t))) 1) (upFrom (length (t .nodes)) 0)) once-nodes)
+          unfold levels onceEach in eqb→eq (length (concat (levels t))) (length (t .nodes)) (and-l (eqb (length (concat (levels t))) (length (t .nodes)))
+          (every (λ i. eqb (occurs i (concat (levels t))) 1) (upFrom (length (t .nodes)) 0)) once-nodes)
 
   kid′ : (i c : ℕ) → i < length (t .nodes) → nodeAt t i .leaf ≡ false → 0 < occurs c (nodeAt t i .list) → (nodeAt t c .parent ≡ some i) ×
       (ranks i ≡ suc (ranks c))
@@ -170,12 +170,12 @@ module _ (s : Settings) (t : Tree) (h2 : T (rooted t)) (h3 : T (every (listFits 
   nodes′ : (c : ℕ) → is c (t .root) + 0 + sumTo (λ i. inner (nodeAt t i) c) (length (t .nodes)) ≡ below c (length (t .nodes))
   unfolding inner
   nodes′ c =
-      let a : over (is c) (joined (levels t)) ≡ over (is c) (t .root ∷ []) + over (λ k. cond (nodeAt t k .leaf) 0 (over (is c) (nodeAt t k .list)))
-      (joined (levels t)) =
-      subst (λ z. over (is c) (joined z) ≡ over (is c) (t .root ∷ []) + over (λ k. cond (nodeAt t k .leaf) 0 (over (is c) (nodeAt t k .list))) (joined z))
+      let a : over (is c) (concat (levels t)) ≡ over (is c) (t .root ∷ []) + over (λ k. cond (nodeAt t k .leaf) 0 (over (is c) (nodeAt t k .list)))
+      (concat (levels t)) =
+      subst (λ z. over (is c) (concat z) ≡ over (is c) (t .root ∷ []) + over (λ k. cond (nodeAt t k .leaf) 0 (over (is c) (nodeAt t k .list))) (concat z))
       (sym shape) (listed-all s t (is c) (t .root ∷ []) rest (subst (λ z. Chain s t z) shape chain)) in
       let b : over (is c) (t .root ∷ []) ≡ is c (t .root) + 0 = unfold over in refl in
-      let d = occurs-over c (joined (levels t)) in
+      let d = occurs-over c (concat (levels t)) in
       let e = J-once c in
       let f = J-over (λ k. cond (nodeAt t k .leaf) 0 (over (is c) (nodeAt t k .list))) in
       let g : sumTo (λ i. inner (nodeAt t i) c) (length (t .nodes)) ≡ sumTo (λ k. cond (nodeAt t k .leaf) 0 (over (is c) (nodeAt t k .list)))

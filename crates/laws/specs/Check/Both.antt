@@ -11,7 +11,7 @@ use lib.ListN.{length}
 use Rattle.feature.specs.declared.Summary.{Summary}
 use Rattle.head.specs.declared.Settings.{Settings}
 use Rattle.rules.specs.declared.Verdict.the-variants.{Passes}
-use Rattle.rules.specs.Lists.{every, joined, upFrom}
+use Rattle.rules.specs.Lists.{every, concat, upFrom}
 use Rattle.rules.specs.Check.{linked, onceEach, levels, ownList, leafLists, checked, totalOf, Binary64}
 use Rattle.rules.specs.Tree.{Tree}
 use Rattle.laws.specs.Check.Taken.{checked-whole}
@@ -56,5 +56,5 @@ resting-passes s t rows r = go (r .holds)
 pub passing-linked : (s : Settings) (t : Tree) → checked s t ≡ Passes → T (onceEach (length (t .entries)) (leafLists (t .nodes)))
 unfolding linked
 passing-linked s t e =
-    and-r (onceEach (length (t .nodes)) (joined (levels t)) && every (ownList t) (upFrom (length (t .nodes)) 0))
+    and-r (onceEach (length (t .nodes)) (concat (levels t)) && every (ownList t) (upFrom (length (t .nodes)) 0))
     (onceEach (length (t .entries)) (leafLists (t .nodes))) (passing-of s t e .links)

@@ -15,7 +15,7 @@ use Rattle.feature.specs.declared.Summary.{Summary}
 use Rattle.head.specs.declared.Settings.{Settings}
 use Rattle.head.specs.Sizes.{nodeCap}
 use Rattle.rules.specs.declared.Verdict.the-variants.{Passes}
-use Rattle.rules.specs.Lists.{upFrom, every, occurs, joined}
+use Rattle.rules.specs.Lists.{upFrom, every, occurs, concat}
 use Rattle.rules.specs.Tree.{Node, Tree, nodeAt, cap}
 use Rattle.rules.specs.Check.{onceEach, orphan, sized, rooted, listFits, nextLevel, levelsFrom, levels, ownList, leafLists, linked, filled, loneRoot, level, Binary64}
 use Rattle.rules.specs.Check.{sameKind, growing, totalOf, weighs, weighed, lowest, conditions, checked, mergedBelow, known}
@@ -69,7 +69,7 @@ oneOf m r = record { nodes = m ∷ []; entries = []; root = 0; running = r }
 -- the lone node of such a tree
 lone-node : (s : Settings) (m : Node) (r : Running) → T (rooted (oneOf m r)) → T (every (listFits s (oneOf m r)) (m ∷ [])) → T
     (linked (oneOf m r)) → T (filled (oneOf m r)) → (m .list ≡ []) × (m .leaf ≡ true) × (m .parent ≡ none)
-unfolding rooted every listFits linked filled orphan nodeAt loneRoot onceEach levels levelsFrom nextLevel joined known
+unfolding rooted every listFits linked filled orphan nodeAt loneRoot onceEach levels levelsFrom nextLevel concat known
 lone-node s m r h2 h3 h4 h5 = go (m .list) refl (m .leaf) refl
   where
     parent′ : (o : Option ℕ) → T (orphan o) → o ≡ none
@@ -91,14 +91,14 @@ lone-node s m r h2 h3 h4 h5 = go (m .list) refl (m .leaf) refl
         never q = let z = ltb→lt c 0 q in omega arith
     go (c ∷ ks) e false f =
         let tr : Tree = oneOf m r in
-        let a : length (joined (levels tr)) ≡ 1 = eqb→eq (length (joined (levels tr))) 1
-        (and-l (eqb (length (joined (levels tr))) 1) (every (λ i. eqb (occurs i (joined (levels tr))) 1) (upFrom 1 0))
-        (and-l (onceEach 1 (joined (levels tr))) (every (ownList tr) (upFrom 1 0))
-        (and-l (onceEach 1 (joined (levels tr)) && every (ownList tr) (upFrom 1 0)) (onceEach 0 (leafLists (m ∷ []))) h4))) in
-        let b : length ((0 ∷ []) ++ joined (levelsFrom tr 1 (cond (m .leaf) [] (m .list) ++ []))) ≡ 1 = a in
-        let d : length ((0 ∷ []) ++ joined (levelsFrom tr 1 (cond false [] (c ∷ ks) ++ []))) ≡ 1 = subst
-        (λ z. length ((0 ∷ []) ++ joined (levelsFrom tr 1 (cond false [] z ++ []))) ≡ 1) e
-        (subst (λ z. length ((0 ∷ []) ++ joined (levelsFrom tr 1 (cond z [] (m .list) ++ []))) ≡ 1) f b) in
+        let a : length (concat (levels tr)) ≡ 1 = eqb→eq (length (concat (levels tr))) 1
+        (and-l (eqb (length (concat (levels tr))) 1) (every (λ i. eqb (occurs i (concat (levels tr))) 1) (upFrom 1 0))
+        (and-l (onceEach 1 (concat (levels tr))) (every (ownList tr) (upFrom 1 0))
+        (and-l (onceEach 1 (concat (levels tr)) && every (ownList tr) (upFrom 1 0)) (onceEach 0 (leafLists (m ∷ []))) h4))) in
+        let b : length ((0 ∷ []) ++ concat (levelsFrom tr 1 (cond (m .leaf) [] (m .list) ++ []))) ≡ 1 = a in
+        let d : length ((0 ∷ []) ++ concat (levelsFrom tr 1 (cond false [] (c ∷ ks) ++ []))) ≡ 1 = subst
+        (λ z. length ((0 ∷ []) ++ concat (levelsFrom tr 1 (cond false [] z ++ []))) ≡ 1) e
+        (subst (λ z. length ((0 ∷ []) ++ concat (levelsFrom tr 1 (cond z [] (m .list) ++ []))) ≡ 1) f b) in
         absurd (two (length ((ks ++ []) ++ [])) d)
       where
         two : (n : ℕ) → suc (suc n) ≡ 1 → ⊥
@@ -106,7 +106,7 @@ lone-node s m r h2 h3 h4 h5 = go (m .list) refl (m .leaf) refl
 
 -- a lone root of weight zero passes
 pub bare-passes : (s : Settings) (z : Summary) (r : Running) → Zero (z .weight) → 1 ≤ s .«max_leaves» → Below s r → checked s (emptyTree z r) ≡ Passes
-unfolding checked conditions sized rooted orphan every listFits linked onceEach levels levelsFrom nextLevel joined occurs upFrom ownList leafLists filled loneRoot level sameKind growing weighed weighs totalOf collected nodeAt lowest nodeCap mergedBelow
+unfolding checked conditions sized rooted orphan every listFits linked onceEach levels levelsFrom nextLevel concat occurs upFrom ownList leafLists filled loneRoot level sameKind growing weighed weighs totalOf collected nodeAt lowest nodeCap mergedBelow
 bare-passes s z r hz one hg =
     go (leb 1 ((s .«max_leaves» + 1) * (s .«max_leaves» + 2) / 2))
     (is-true (leb 1 ((s .«max_leaves» + 1) * (s .«max_leaves» + 2) / 2)) (le→leb 1 ((s .«max_leaves» + 1) * (s .«max_leaves» + 2) / 2) (omega arith)))

@@ -10,7 +10,7 @@ use lib.Ieee.Fits.{and-i}
 use lib.ListN.{length}
 use Rattle.head.specs.declared.Settings.{Settings}
 use Rattle.rules.specs.Tree.{Tree, nodeAt}
-use Rattle.rules.specs.Lists.{occurs, every, joined}
+use Rattle.rules.specs.Lists.{occurs, every, concat}
 use Rattle.rules.specs.Check.{nextLevel, levelsFrom, levels, sameKind, growing, level}
 use Rattle.counting.specs.Count.{is, is-same, is-other, is-eq, same?, below}
 use Rattle.counting.specs.Sums.{over, over-same, over-append, occurs-over, length-over, sumTo, over-zero}
@@ -132,28 +132,28 @@ module _ {s : Settings} (t : Tree) {R : ℕ → ℕ} (g : Links s (nodeAt t) (le
   no-level zero = refl
   no-level (suc k) = refl
 
-  joined-over : (v : ℕ → ℕ) (k h : ℕ) (l : List ℕ) → h < k → h ≤ R (t .root) → Level h l → over v (joined (levelsFrom t k l)) ≡ over (U v) l
-  unfolding levelsFrom joined over
+  joined-over : (v : ℕ → ℕ) (k h : ℕ) (l : List ℕ) → h < k → h ≤ R (t .root) → Level h l → over v (concat (levelsFrom t k l)) ≡ over (U v) l
+  unfolding levelsFrom concat over
   joined-over v zero h l q b lv = absurd (omega arith)
   joined-over v (suc k) h [] q b lv = refl
   joined-over v (suc k) zero (m ∷ l) q b lv =
       let a : levelsFrom t k (nextLevel t (m ∷ l)) ≡ [] = ap (λ z. levelsFrom t k z) (last-level (m ∷ l) lv) ∙ no-level k in
-      let d : over v ((m ∷ l) ++ joined (levelsFrom t k (nextLevel t (m ∷ l)))) ≡ over v (m ∷ l) + over v (joined (levelsFrom t k (nextLevel t (m ∷ l)))) =
-      over-append v (m ∷ l) (joined (levelsFrom t k (nextLevel t (m ∷ l)))) in
-      let e : over v (joined (levelsFrom t k (nextLevel t (m ∷ l)))) ≡ 0 = ap (λ z. over v (joined z)) a in
+      let d : over v ((m ∷ l) ++ concat (levelsFrom t k (nextLevel t (m ∷ l)))) ≡ over v (m ∷ l) + over v (concat (levelsFrom t k (nextLevel t (m ∷ l)))) =
+      over-append v (m ∷ l) (concat (levelsFrom t k (nextLevel t (m ∷ l)))) in
+      let e : over v (concat (levelsFrom t k (nextLevel t (m ∷ l)))) ≡ 0 = ap (λ z. over v (concat z)) a in
       let f = under-all v (m ∷ l) (λ c o. member 0 (m ∷ l) lv c o .0) in
       let i : over (below-of t (U v)) (m ∷ l) ≡ 0 = sym (next-over t (U v) (m ∷ l)) ∙ ap (λ z. over (U v) z) (last-level (m ∷ l) lv) in
       omega arith
   joined-over v (suc k) (suc h) (m ∷ l) q b lv =
       let a = joined-over v k h (nextLevel t (m ∷ l)) (omega arith) (omega arith) (next-level h (m ∷ l) b lv) in
-      let d : over v ((m ∷ l) ++ joined (levelsFrom t k (nextLevel t (m ∷ l)))) ≡ over v (m ∷ l) + over v (joined (levelsFrom t k (nextLevel t (m ∷ l)))) =
-      over-append v (m ∷ l) (joined (levelsFrom t k (nextLevel t (m ∷ l)))) in
+      let d : over v ((m ∷ l) ++ concat (levelsFrom t k (nextLevel t (m ∷ l)))) ≡ over v (m ∷ l) + over v (concat (levelsFrom t k (nextLevel t (m ∷ l)))) =
+      over-append v (m ∷ l) (concat (levelsFrom t k (nextLevel t (m ∷ l)))) in
       let f = under-all v (m ∷ l) (λ c o. member (suc h) (m ∷ l) lv c o .0) in
       let i = next-over t (U v) (m ∷ l) in
       omega arith
 
   -- condition 4: every node once
-  pub levels-once : (v : ℕ → ℕ) → over v (joined (levels t)) ≡ sumTo v (length (t .nodes))
+  pub levels-once : (v : ℕ → ℕ) → over v (concat (levels t)) ≡ sumTo v (length (t .nodes))
   unfolding levels
   levels-once v =
       let h = height g in
@@ -162,8 +162,8 @@ module _ {s : Settings} (t : Tree) {R : ℕ → ℕ} (g : Links s (nodeAt t) (le
       let c = under-root fr v in
       omega arith
 
-  pub each-once : (c : ℕ) → occurs c (joined (levels t)) ≡ below c (length (t .nodes))
-  each-once c = occurs-over c (joined (levels t)) ∙ levels-once (is c) ∙ is-sum c (length (t .nodes))
+  pub each-once : (c : ℕ) → occurs c (concat (levels t)) ≡ below c (length (t .nodes))
+  each-once c = occurs-over c (concat (levels t)) ∙ levels-once (is c) ∙ is-sum c (length (t .nodes))
 
   -- ---- condition 6
 

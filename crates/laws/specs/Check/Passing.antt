@@ -18,8 +18,8 @@ use Rattle.feature.specs.Summaries.{blank}
 use Rattle.head.specs.declared.Settings.{Settings}
 use Rattle.head.specs.Sizes.{nodeCap}
 use Rattle.rules.specs.declared.Verdict.the-variants.{Passes}
-use Rattle.rules.specs.Lists.{upFrom, every, occurs, joined}
-use Rattle.rules.specs.Tree.{Node, Tree, nodeAt, entryAt, blankNode, cap, rowsIn}
+use Rattle.rules.specs.Lists.{upFrom, every, occurs, concat}
+use Rattle.rules.specs.Tree.{Node, Tree, nodeAt, entryAt, blankNode, cap, rowCount}
 use Rattle.rules.specs.Check.{onceEach, orphan, names, sized, rooted, listFits, levels, ownList, leafLists, linked, loneRoot, filled, totalOf}
 use Rattle.rules.specs.Check.{weighs, weighed, checked, known, mergedBelow}
 use Rattle.rules.specs.Reinsert.{collected}
@@ -85,10 +85,10 @@ leaf-lists v d (n ∷ ns) =
     go true = refl
     go false = unfold over in refl
 
-pub entries-sum : (d : Summary) (l : List Summary) → totalOf l ≡ sumTo (λ k. rowsIn (getD l k d)) (length l)
+pub entries-sum : (d : Summary) (l : List Summary) → totalOf l ≡ sumTo (λ k. rowCount (getD l k d)) (length l)
 unfolding totalOf sumTo
 entries-sum d [] = refl
-entries-sum d (e ∷ l) = let a = entries-sum d l in let b = sum-first (λ k. rowsIn (getD (e ∷ l) k d)) (length l) in omega arith
+entries-sum d (e ∷ l) = let a = entries-sum d l in let b = sum-first (λ k. rowCount (getD (e ∷ l) k d)) (length l) in omega arith
 
 -- ---- the conditions
 
@@ -138,10 +138,10 @@ module _ {s : Settings} {t : Tree} {R : ℕ → ℕ} {total : ℕ} (g : Settled 
   c4 : T (linked t)
   unfolding linked
   c4 =
-      and-i (onceEach (length (t .nodes)) (joined (levels t)) && every (ownList t) (upFrom (length (t .nodes)) 0))
+      and-i (onceEach (length (t .nodes)) (concat (levels t)) && every (ownList t) (upFrom (length (t .nodes)) 0))
       (onceEach (length (t .entries)) (leafLists (t .nodes)))
-      (and-i (onceEach (length (t .nodes)) (joined (levels t))) (every (ownList t) (upFrom (length (t .nodes)) 0))
-      (once-each (length (t .nodes)) (joined (levels t)) (length-over (joined (levels t)) ∙ levels-once t (g .links) (λ _. 1) ∙ sum-ones (length (t .nodes)))
+      (and-i (onceEach (length (t .nodes)) (concat (levels t))) (every (ownList t) (upFrom (length (t .nodes)) 0))
+      (once-each (length (t .nodes)) (concat (levels t)) (length-over (concat (levels t)) ∙ levels-once t (g .links) (λ _. 1) ∙ sum-ones (length (t .nodes)))
       (λ c. each-once t (g .links) c))
       (every-up (ownList t) (length (t .nodes)) 0 (λ c q. own-at c (omega arith))))
       (once-each (length (t .entries)) (leafLists (t .nodes)) (length-over (leafLists (t .nodes)) ∙ leaf-all (λ _. 1) ∙ sum-ones (length (t .entries)))
@@ -160,7 +160,7 @@ module _ {s : Settings} {t : Tree} {R : ℕ → ℕ} {total : ℕ} (g : Settled 
   unfolding entryAt entryWeight
   entry-counts c l =
       let q = g .exact .at-entry c l in subst T (sym
-      (counts-test (getD (t .entries) c blank .weight) (rowsIn (getD (t .entries) c blank))
+      (counts-test (getD (t .entries) c blank .weight) (rowCount (getD (t .entries) c blank))
       (record { some = g .exact .some-entry c l; few = q .1; is = q .0 }))) tt
 
   total-is : totalOf (t .entries) ≡ total
@@ -173,7 +173,7 @@ module _ {s : Settings} {t : Tree} {R : ℕ → ℕ} {total : ℕ} (g : Settled 
       N : ℕ
       N = totalOf (map (entryAt t) (collected t (length (t .nodes)) (i ∷ [])))
 
-      e : rowsIn (nodeAt t i .summary) ≡ N
+      e : rowCount (nodeAt t i .summary) ≡ N
       e = unfold nodeWeight in beneath-weighs g i l
 
       same : nodeAt t i .summary .weight ≡ whole N

@@ -11,7 +11,7 @@ use lib.Ieee.Fits.{and-l, and-r}
 use lib.ListN.{length, length-append}
 use Rattle.head.specs.declared.Settings.{Settings}
 use Rattle.rules.specs.Tree.{Tree, nodeAt}
-use Rattle.rules.specs.Lists.{occurs, every, joined}
+use Rattle.rules.specs.Lists.{occurs, every, concat}
 use Rattle.rules.specs.Check.{nextLevel, levelsFrom, sameKind, growing}
 use Rattle.counting.specs.Count.{is, is-same, is-other, same?, lt?}
 use Rattle.counting.specs.Sums.{over, over-same, over-append, over-in, occurs-over, occurs-append, occurs-cons, length-over, over-zero}
@@ -48,14 +48,14 @@ module _ (s : Settings) (t : Tree) where
   no-level (suc k) = refl
 
   -- with steps to spare the levels are not cut
-  pub uncut : (k : ℕ) (l : List ℕ) → length (joined (levelsFrom t k l)) < k → Chain (levelsFrom t k l)
-  unfolding levelsFrom joined
+  pub uncut : (k : ℕ) (l : List ℕ) → length (concat (levelsFrom t k l)) < k → Chain (levelsFrom t k l)
+  unfolding levelsFrom concat
   uncut zero l h = absurd (omega arith)
   uncut (suc k) [] h = tt
-  uncut (suc zero) (m ∷ l) h = let q = length-append (m ∷ l) (joined (levelsFrom t 0 (nextLevel t (m ∷ l)))) in absurd (omega arith)
+  uncut (suc zero) (m ∷ l) h = let q = length-append (m ∷ l) (concat (levelsFrom t 0 (nextLevel t (m ∷ l)))) in absurd (omega arith)
   uncut (suc (suc k)) (m ∷ l) h =
       go (nextLevel t (m ∷ l)) refl
-      (uncut (suc k) (nextLevel t (m ∷ l)) (let q = length-append (m ∷ l) (joined (levelsFrom t (suc k) (nextLevel t (m ∷ l)))) in omega arith))
+      (uncut (suc k) (nextLevel t (m ∷ l)) (let q = length-append (m ∷ l) (concat (levelsFrom t (suc k) (nextLevel t (m ∷ l)))) in omega arith))
     where
       go : (n : List ℕ) → nextLevel t (m ∷ l) ≡ n → Chain (levelsFrom t (suc k) (nextLevel t (m ∷ l)))
           → Chain ((m ∷ l) ∷ levelsFrom t (suc k) (nextLevel t (m ∷ l)))
@@ -63,16 +63,16 @@ module _ (s : Settings) (t : Tree) where
       go (x ∷ n) e c = subst (λ z. Chain ((m ∷ l) ∷ levelsFrom t (suc k) z)) (sym e) (omega arith, e, subst (λ z. Chain (levelsFrom t (suc k) z)) e c)
 
   -- all but the first level is what the levels list
-  pub listed-all : (v : ℕ → ℕ) (l : List ℕ) (ls : List (List ℕ)) → Chain (l ∷ ls) → over v (joined (l ∷ ls)) ≡ over v l + over (below-of t v) (joined (l ∷ ls))
-  unfolding joined over
+  pub listed-all : (v : ℕ → ℕ) (l : List ℕ) (ls : List (List ℕ)) → Chain (l ∷ ls) → over v (concat (l ∷ ls)) ≡ over v l + over (below-of t v) (concat (l ∷ ls))
+  unfolding concat over
   listed-all v l [] c =
       let a = over-append v l [] in
       let b = over-append (below-of t v) l [] in
       let d : over (below-of t v) l ≡ 0 = sym (next-over t v l) ∙ ap (λ z. over v z) (c .1) in
       omega arith
   listed-all v l (m ∷ ls) c =
-      let a = over-append v l (joined (m ∷ ls)) in
-      let b = over-append (below-of t v) l (joined (m ∷ ls)) in
+      let a = over-append v l (concat (m ∷ ls)) in
+      let b = over-append (below-of t v) l (concat (m ∷ ls)) in
       let d : over (below-of t v) l ≡ over v m = sym (next-over t v l) ∙ ap (λ z. over v z) (c .1) in
       let i = listed-all v m ls (c .2) in
       omega arith
@@ -88,9 +88,9 @@ module _ (s : Settings) (t : Tree) where
       omega arith
 
   -- a kid of a member of the levels is in the levels below the first
-  kid-rest : (i c : ℕ) (l : List ℕ) (ls : List (List ℕ)) → Chain (l ∷ ls) → 0 < occurs i (joined (l ∷ ls)) → nodeAt t i .leaf ≡ false
-      → 0 < occurs c (nodeAt t i .list) → 0 < occurs c (joined ls)
-  unfolding joined occurs
+  kid-rest : (i c : ℕ) (l : List ℕ) (ls : List (List ℕ)) → Chain (l ∷ ls) → 0 < occurs i (concat (l ∷ ls)) → nodeAt t i .leaf ≡ false
+      → 0 < occurs c (nodeAt t i .list) → 0 < occurs c (concat ls)
+  unfolding concat occurs
   kid-rest i c l [] ch o f q =
       let a = occurs-append i l [] in
       let b = kid-next i c l (omega arith) f q in
@@ -98,13 +98,13 @@ module _ (s : Settings) (t : Tree) where
       absurd (omega arith)
   kid-rest i c l (m ∷ ls) ch o f q = go (lt? 0 (occurs i l)) (λ p. kid-rest i c m ls (ch .2) p f q)
     where
-      parts : occurs i (l ++ joined (m ∷ ls)) ≡ occurs i l + occurs i (joined (m ∷ ls))
-      parts = occurs-append i l (joined (m ∷ ls))
+      parts : occurs i (l ++ concat (m ∷ ls)) ≡ occurs i l + occurs i (concat (m ∷ ls))
+      parts = occurs-append i l (concat (m ∷ ls))
 
-      tail : occurs c (m ++ joined ls) ≡ occurs c m + occurs c (joined ls)
-      tail = occurs-append c m (joined ls)
+      tail : occurs c (m ++ concat ls) ≡ occurs c m + occurs c (concat ls)
+      tail = occurs-append c m (concat ls)
 
-      go : (0 < occurs i l) ⊎ (occurs i l ≤ 0) → (0 < occurs i (joined (m ∷ ls)) → 0 < occurs c (joined ls)) → 0 < occurs c (m ++ joined ls)
+      go : (0 < occurs i l) ⊎ (occurs i l ≤ 0) → (0 < occurs i (concat (m ∷ ls)) → 0 < occurs c (concat ls)) → 0 < occurs c (m ++ concat ls)
       go (inl p) ih =
           let b = kid-next i c l p f q in
           let z : occurs c (nextLevel t l) ≡ occurs c m = ap (λ y. occurs c y) (ch .1) in
@@ -113,24 +113,24 @@ module _ (s : Settings) (t : Tree) where
       go (inr p) ih = let a = parts in let b = ih (omega arith) in let w = tail in omega arith
 
   -- one rank lower
-  pub kid-rank : (i c : ℕ) (ls : List (List ℕ)) → Chain ls → ((d : ℕ) → occurs d (joined ls) ≤ 1) → 0 < occurs i (joined ls) → nodeAt t i .leaf ≡ false
+  pub kid-rank : (i c : ℕ) (ls : List (List ℕ)) → Chain ls → ((d : ℕ) → occurs d (concat ls) ≤ 1) → 0 < occurs i (concat ls) → nodeAt t i .leaf ≡ false
       → 0 < occurs c (nodeAt t i .list) → rankIn ls i ≡ suc (rankIn ls c)
-  unfolding joined occurs
+  unfolding concat occurs
   kid-rank i c [] ch u o f q = absurd (not-suc-le-zero o)
   kid-rank i c (l ∷ []) ch u o f q = let a = kid-rest i c l [] ch o f q in absurd (not-suc-le-zero a)
   kid-rank i c (l ∷ (m ∷ ls)) ch u o f q =
-      go (lt? 0 (occurs i l)) (λ p. kid-rank i c (m ∷ ls) (ch .2) (λ d. let a = occurs-append d l (joined (m ∷ ls)) in let b = u d in omega arith) p f q)
+      go (lt? 0 (occurs i l)) (λ p. kid-rank i c (m ∷ ls) (ch .2) (λ d. let a = occurs-append d l (concat (m ∷ ls)) in let b = u d in omega arith) p f q)
     where
-      parts : (d : ℕ) → occurs d (l ++ joined (m ∷ ls)) ≡ occurs d l + occurs d (joined (m ∷ ls))
-      parts d = occurs-append d l (joined (m ∷ ls))
+      parts : (d : ℕ) → occurs d (l ++ concat (m ∷ ls)) ≡ occurs d l + occurs d (concat (m ∷ ls))
+      parts d = occurs-append d l (concat (m ∷ ls))
 
-      in-rest : 0 < occurs c (joined (m ∷ ls))
+      in-rest : 0 < occurs c (concat (m ∷ ls))
       in-rest = kid-rest i c l (m ∷ ls) ch o f q
 
       not-here : occurs c l ≡ 0
       not-here = let a = parts c in let b = u c in let d = in-rest in omega arith
 
-      go : (0 < occurs i l) ⊎ (occurs i l ≤ 0) → (0 < occurs i (joined (m ∷ ls)) → rankIn (m ∷ ls) i ≡ suc (rankIn (m ∷ ls) c))
+      go : (0 < occurs i l) ⊎ (occurs i l ≤ 0) → (0 < occurs i (concat (m ∷ ls)) → rankIn (m ∷ ls) i ≡ suc (rankIn (m ∷ ls) c))
           → rankIn (l ∷ m ∷ ls) i ≡ suc (rankIn (l ∷ m ∷ ls) c)
       go (inl p) ih =
           let b = kid-next i c l p f q in
@@ -170,21 +170,21 @@ module _ (s : Settings) (t : Tree) where
               by false h = absurd h
       go (inr a) = absurd (subst (λ b. T (not b)) f (all-of (λ i. not (nodeAt t i .leaf)) l a i o))
 
-  pub leaf-rank : (i : ℕ) (ls : List (List ℕ)) → Chain ls → T (every (sameKind t) ls) → 0 < occurs i (joined ls) → nodeAt t i .leaf ≡ true → rankIn ls i ≡ 0
-  unfolding joined occurs every
+  pub leaf-rank : (i : ℕ) (ls : List (List ℕ)) → Chain ls → T (every (sameKind t) ls) → 0 < occurs i (concat ls) → nodeAt t i .leaf ≡ true → rankIn ls i ≡ 0
+  unfolding concat occurs every
   leaf-rank i [] ch k o f = absurd (not-suc-le-zero o)
   leaf-rank i (l ∷ []) ch k o f = let a = occurs-append i l [] in rank-here l [] i (omega arith)
   leaf-rank i (l ∷ (m ∷ ls)) ch k o f =
       go (lt? 0 (occurs i l)) (λ p. leaf-rank i (m ∷ ls) (ch .2) (and-r (sameKind t l) (sameKind t m && every (sameKind t) ls) k) p f)
     where
-      parts : occurs i (l ++ joined (m ∷ ls)) ≡ occurs i l + occurs i (joined (m ∷ ls))
-      parts = occurs-append i l (joined (m ∷ ls))
+      parts : occurs i (l ++ concat (m ∷ ls)) ≡ occurs i l + occurs i (concat (m ∷ ls))
+      parts = occurs-append i l (concat (m ∷ ls))
 
       some-m : (ls : List (List ℕ)) → Chain (m ∷ ls) → 0 < length m
       some-m [] c = c .0
       some-m (n ∷ ls) c = c .0
 
-      go : (0 < occurs i l) ⊎ (occurs i l ≤ 0) → (0 < occurs i (joined (m ∷ ls)) → rankIn (m ∷ ls) i ≡ 0) → rankIn (l ∷ m ∷ ls) i ≡ 0
+      go : (0 < occurs i l) ⊎ (occurs i l ≤ 0) → (0 < occurs i (concat (m ∷ ls)) → rankIn (m ∷ ls) i ≡ 0) → rankIn (l ∷ m ∷ ls) i ≡ 0
       go (inl p) ih =
           let a = leaf-last l (and-l (sameKind t l) (sameKind t m && every (sameKind t) ls) k) i p f in
           let b : length (nextLevel t l) ≡ length m = ap (λ z. length z) (ch .1) in
@@ -198,17 +198,17 @@ module _ (s : Settings) (t : Tree) where
   lenAt [] r = 0
   lenAt (l ∷ ls) r = is r (length ls) * length l + lenAt ls r
 
-  pub rank-count : (r : ℕ) (ls : List (List ℕ)) → ((d : ℕ) → occurs d (joined ls) ≤ 1) → over (λ k. is r (rankIn ls k)) (joined ls) ≡ lenAt ls r
-  unfolding joined lenAt over
+  pub rank-count : (r : ℕ) (ls : List (List ℕ)) → ((d : ℕ) → occurs d (concat ls) ≤ 1) → over (λ k. is r (rankIn ls k)) (concat ls) ≡ lenAt ls r
+  unfolding concat lenAt over
   rank-count r [] u = refl
   rank-count r (l ∷ ls) u =
-      let a = over-append (λ k. is r (rankIn (l ∷ ls) k)) l (joined ls) in
+      let a = over-append (λ k. is r (rankIn (l ∷ ls) k)) l (concat ls) in
       let b : over (λ k. is r (rankIn (l ∷ ls) k)) l ≡ over (λ k. is r (length ls)) l =
       over-same (λ k. is r (rankIn (l ∷ ls) k)) (λ k. is r (length ls)) l (λ c o. ap (λ z. is r z) (rank-here l ls c o)) in
-      let d : over (λ k. is r (rankIn (l ∷ ls) k)) (joined ls) ≡ over (λ k. is r (rankIn ls k)) (joined ls) =
-      over-same (λ k. is r (rankIn (l ∷ ls) k)) (λ k. is r (rankIn ls k)) (joined ls)
-      (λ c o. ap (λ z. is r z) (rank-later l ls c (let p = occurs-append c l (joined ls) in let q = u c in omega arith))) in
-      let i = rank-count r ls (λ d. let p = occurs-append d l (joined ls) in let q = u d in omega arith) in
+      let d : over (λ k. is r (rankIn (l ∷ ls) k)) (concat ls) ≡ over (λ k. is r (rankIn ls k)) (concat ls) =
+      over-same (λ k. is r (rankIn (l ∷ ls) k)) (λ k. is r (rankIn ls k)) (concat ls)
+      (λ c o. ap (λ z. is r z) (rank-later l ls c (let p = occurs-append c l (concat ls) in let q = u c in omega arith))) in
+      let i = rank-count r ls (λ d. let p = occurs-append d l (concat ls) in let q = u d in omega arith) in
       let e = const (is r (length ls)) l in
       omega arith
     where

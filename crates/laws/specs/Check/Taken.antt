@@ -19,7 +19,7 @@ use Rattle.head.specs.declared.Settings.{Settings}
 use Rattle.head.specs.Sizes.{nodeCap}
 use Rattle.rules.specs.declared.Verdict.the-variants.{Passes}
 use Rattle.rules.specs.Lists.{upFrom, every}
-use Rattle.rules.specs.Tree.{Tree, nodeAt, entryAt, rowsIn}
+use Rattle.rules.specs.Tree.{Tree, nodeAt, entryAt, rowCount}
 use Rattle.rules.specs.Reinsert.{collected}
 use Rattle.rules.specs.Check.{sized, loneRoot, totalOf, weighs, weighed, checked, mergedBelow, Binary64}
 use Rattle.laws.specs.Invariant.Weights.{exact-count, exact-is, IsExact}
@@ -58,8 +58,8 @@ module _ {s : Settings} {t : Tree} {R : ℕ → ℕ} (g : Links s (nodeAt t) (le
   unfolding entryAt
   entry-counts c l = every-at (λ e. isCount (e .weight)) blank (t .entries) all-count c l
 
-  entry-count : (c : ℕ) → c < length (t .entries) → Counts (entryAt t c .weight) (rowsIn (entryAt t c))
-  unfolding rowsIn
+  entry-count : (c : ℕ) → c < length (t .entries) → Counts (entryAt t c .weight) (rowCount (entryAt t c))
+  unfolding rowCount
   entry-count c l = count-laws (entryAt t c .weight) (lent .entries-fit c l) (is-true (isCount (entryAt t c .weight)) (entry-counts c l))
 
   entry-is : (c : ℕ) → c < length (t .entries) → IsExact (entryAt t c)

@@ -11,7 +11,7 @@ use Rattle.feature.specs.declared.Summary.{Summary}
 use Rattle.feature.specs.Summaries.{blank}
 use Rattle.head.specs.declared.Settings.{Settings}
 use Rattle.rules.specs.Lists.{snoc}
-use Rattle.rules.specs.Tree.{Tree, nodeAt, entryAt, blankNode, withNodes, withEntries, adding, listing, rowsIn}
+use Rattle.rules.specs.Tree.{Tree, nodeAt, entryAt, blankNode, withNodes, withEntries, adding, withList, rowCount}
 use Rattle.rules.specs.Insert.{begun}
 use Rattle.laws.specs.Invariant.Weights.{IsExact, Exactly, exact-count, exact-is}
 use Rattle.counting.specs.Count.{is, is-other, same?}
@@ -30,7 +30,7 @@ use Rattle.laws.specs.Inserting.Listed.{new-links, held-in}
 module _ {s : Settings} {t : Tree} {R : ℕ → ℕ} {d l total : ℕ} (e : Summary) (g : Pushed s t R d l total) (h : l < length (t .nodes))
     (f : nodeAt t l .leaf ≡ true) (x : Exactly e d) (some : 1 ≤ d) where
   added : Added (nodeAt t) (nodeAt (begun l e t)) l (length (t .entries))
-  unfolding begun withNodes withEntries nodeAt adding listing
+  unfolding begun withNodes withEntries nodeAt adding withList
   added = record {
     kids-p = ap (λ m. m .list) (change-at (adding (length (t .entries))) l blankNode (t .nodes) h);
     kids-o = (λ k d. ap (λ m. m .list) (change-off (adding (length (t .entries))) l k blankNode (t .nodes) d));
@@ -39,12 +39,12 @@ module _ {s : Settings} {t : Tree} {R : ℕ → ℕ} {d l total : ℕ} (e : Summ
   }
 
   sum-same′ : (k : ℕ) → nodeAt (begun l e t) k .summary ≡ nodeAt t k .summary
-  unfolding begun withNodes withEntries nodeAt adding listing
+  unfolding begun withNodes withEntries nodeAt adding withList
   sum-same′ k = change-keeps (λ m. m .summary) (adding (length (t .entries))) l k blankNode (t .nodes) (λ m. refl)
 
   weight-same : (k : ℕ) → nodeWeight (begun l e t) k ≡ nodeWeight t k
   unfolding nodeWeight
-  weight-same k = ap (λ m. rowsIn m) (sum-same′ k)
+  weight-same k = ap (λ m. rowCount m) (sum-same′ k)
 
   pub begun-nodes : length ((begun l e t) .nodes) ≡ length (t .nodes)
   unfolding begun withNodes withEntries
@@ -64,11 +64,11 @@ module _ {s : Settings} {t : Tree} {R : ℕ → ℕ} {d l total : ℕ} (e : Summ
 
   pub ew-new : entryWeight (begun l e t) (length (t .entries)) ≡ d
   unfolding entryWeight
-  ew-new = ap (λ m. rowsIn m) entry-new ∙ exact-count e d x
+  ew-new = ap (λ m. rowCount m) entry-new ∙ exact-count e d x
 
   pub ew-old : (c : ℕ) → c < length (t .entries) → entryWeight (begun l e t) c ≡ entryWeight t c
   unfolding entryWeight
-  ew-old c q = ap (λ m. rowsIn m) (entry-old c (λ z. differ z))
+  ew-old c q = ap (λ m. rowCount m) (entry-old c (λ z. differ z))
     where
       differ : c ≡ length (t .entries) → ⊥
       differ z = omega arith

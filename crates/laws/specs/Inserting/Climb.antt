@@ -11,7 +11,7 @@ use Rattle.binary64.specs.Whole.{most}
 use Rattle.feature.specs.declared.Summary.{Summary}
 use Rattle.head.specs.declared.Settings.{Settings}
 use Rattle.rules.specs.Lists.{changeAt, occurs}
-use Rattle.rules.specs.Tree.{Node, Tree, nodeAt, entryAt, blankNode, withNodes, summed, rowsIn}
+use Rattle.rules.specs.Tree.{Node, Tree, nodeAt, entryAt, blankNode, withNodes, summed, rowCount}
 use Rattle.rules.specs.Descent.{climbed, alongPath}
 use Rattle.laws.specs.Invariant.Weights.{IsExact, Exactly, exact-count, exact-is}
 use Rattle.counting.specs.Count.{same?}
@@ -89,11 +89,11 @@ module _ {s : Settings} (F : Summary → Summary) {t : Tree} {R : ℕ → ℕ} {
 
   wt-m : nodeWeight raised m ≡ nodeWeight t m + d
   unfolding nodeWeight
-  wt-m = ap (λ e. rowsIn e) sum-m ∙ exact-count (F (nodeAt t m .summary)) (nodeWeight t m + d) exact-m
+  wt-m = ap (λ e. rowCount e) sum-m ∙ exact-count (F (nodeAt t m .summary)) (nodeWeight t m + d) exact-m
 
   wt-o : (k : ℕ) → k ≢ m → nodeWeight raised k ≡ nodeWeight t k
   unfolding nodeWeight
-  wt-o k e = ap (λ e. rowsIn e) (sum-o k e)
+  wt-o k e = ap (λ e. rowCount e) (sum-o k e)
 
   raised-exact : Exact raised total
   unfolding withNodes entryWeight entryAt

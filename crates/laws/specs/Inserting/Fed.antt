@@ -10,7 +10,7 @@ use Rattle.feature.specs.declared.Summary.{Summary}
 use Rattle.feature.specs.Summaries.{blank}
 use Rattle.head.specs.declared.Settings.{Settings}
 use Rattle.rules.specs.Lists.{changeAt, occurs}
-use Rattle.rules.specs.Tree.{Tree, nodeAt, entryAt, withEntries, rowsIn}
+use Rattle.rules.specs.Tree.{Tree, nodeAt, entryAt, withEntries, rowCount}
 use Rattle.laws.specs.Invariant.Weights.{IsExact, Exactly, exact-count, exact-is}
 use Rattle.counting.specs.Count.{same?}
 use Rattle.counting.specs.Sums.{over-in, over-same, over-once}
@@ -58,11 +58,11 @@ module _ {s : Settings} (F : Summary → Summary) {t : Tree} {R : ℕ → ℕ} {
 
   pub few-at : entryWeight (fed F e t) e ≡ entryWeight t e + d
   unfolding entryWeight
-  few-at = ap (λ m. rowsIn m) fed-at ∙ exact-count (F (entryAt t e)) (entryWeight t e + d) exact-e
+  few-at = ap (λ m. rowCount m) fed-at ∙ exact-count (F (entryAt t e)) (entryWeight t e + d) exact-e
 
   pub few-off : (c : ℕ) → c ≢ e → entryWeight (fed F e t) c ≡ entryWeight t c
   unfolding entryWeight
-  few-off c q = ap (λ m. rowsIn m) (fed-off c q)
+  few-off c q = ap (λ m. rowCount m) (fed-off c q)
 
   pub fed-length : length ((fed F e t) .entries) ≡ length (t .entries)
   unfolding withEntries

@@ -16,7 +16,7 @@ use Rattle.feature.specs.Steps.{pushed}
 use Rattle.feature.specs.Summaries.{blank}
 use Rattle.head.specs.declared.Settings.{Settings}
 use Rattle.rules.specs.Lists.{occurs}
-use Rattle.rules.specs.Tree.{push, Tree, nodeAt, entryAt, blankNode, fresh, cap, rowsIn}
+use Rattle.rules.specs.Tree.{push, Tree, nodeAt, entryAt, blankNode, fresh, cap, rowCount}
 use Rattle.rules.specs.Descent.{descended, leafFor}
 use Rattle.counting.specs.Count.{is, is-same, is-other, below, below-out, below-suc}
 use Rattle.counting.specs.Sums.{over, occurs-cons, sumTo}
@@ -90,9 +90,9 @@ module _ (s : Settings) (z e : Summary) (r : Running) (d : ℕ) (hz : Exactly z 
     looking = record {
       links = one-links;
       exact = record {
-        at-node = (λ k l. subst (λ y. (nodeAt t y .summary .weight ≡ whole (rowsIn (nodeAt t y .summary))) × (rowsIn (nodeAt t y .summary) ≤ most))
+        at-node = (λ k l. subst (λ y. (nodeAt t y .summary .weight ≡ whole (rowCount (nodeAt t y .summary))) × (rowCount (nodeAt t y .summary) ≤ most))
             (sym (only-zero k l)) (exact-is z d hz));
-        at-entry = (λ k l. subst (λ y. (entryAt t y .weight ≡ whole (rowsIn (entryAt t y))) × (rowsIn (entryAt t y) ≤ most)) (sym (only-zero k l))
+        at-entry = (λ k l. subst (λ y. (entryAt t y .weight ≡ whole (rowCount (entryAt t y))) × (rowCount (entryAt t y) ≤ most)) (sym (only-zero k l))
             (exact-is e d he));
         some-entry = (λ k l. subst (λ y. 1 ≤ entryWeight t y) (sym (only-zero k l)) (let a = we in omega arith));
         small = hz .1;

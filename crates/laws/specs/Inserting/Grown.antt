@@ -14,10 +14,10 @@ use Rattle.head.specs.declared.Settings.{Settings}
 use Rattle.rules.specs.declared.Nearest.{Nearest}
 use Rattle.rules.specs.declared.Nearest.the-variants.{Entry, Nothing}
 use Rattle.rules.specs.Lists.{changeAt, occurs}
-use Rattle.rules.specs.Tree.{Node, Tree, nodeAt, entryAt, blankNode, withNodes, withEntries, summed, rowsIn}
+use Rattle.rules.specs.Tree.{Node, Tree, nodeAt, entryAt, blankNode, withNodes, withEntries, summed, rowCount}
 use Rattle.rules.specs.Descent.{better, Search, searching, searched, climbed, alongPath}
 use Rattle.rules.specs.Insert.{begun}
-use Rattle.rules.specs.Split.{settled}
+use Rattle.rules.specs.Split.{splitFrom}
 use Rattle.laws.specs.Invariant.Weights.{Exactly}
 use Rattle.laws.specs.Running.{splitUp-entries}
 use Rattle.counting.specs.Lists.{change-keeps, length-change}
@@ -119,8 +119,8 @@ abbrev pub Whole : Settings → Tree → ℕ → Type 0
 Whole s t total = (R : ℕ → ℕ) × Settled s t R total × Counted t total
 
 -- the splits make of a tree that is looked at in one leaf a settled one
-pub settled-whole : (s : Settings) (t : Tree) (R : ℕ → ℕ) (l total : ℕ) → Caps s → Placed s t R l total → Whole s (settled s l t) total
-unfolding settled entryWeight entryAt
+pub settled-whole : (s : Settings) (t : Tree) (R : ℕ → ℕ) (l total : ℕ) → Caps s → Placed s t R l total → Whole s (splitFrom s l t) total
+unfolding splitFrom entryWeight entryAt
 settled-whole s t R l total c p =
     let r = split-up s (length (t .nodes)) l t R total c (p .looking) (p .here) (let q = height (p .looking .links) in omega arith) in
-    (r .0, r .1, ap (λ es. sumTo (λ k. rowsIn (getD es k blank)) (length es)) (splitUp-entries s (length (t .nodes)) l t) ∙ p .counted)
+    (r .0, r .1, ap (λ es. sumTo (λ k. rowCount (getD es k blank)) (length es)) (splitUp-entries s (length (t .nodes)) l t) ∙ p .counted)

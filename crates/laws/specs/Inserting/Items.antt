@@ -18,10 +18,10 @@ use Rattle.head.specs.declared.Running.{Running}
 use Rattle.rules.specs.declared.Nearest.{Nearest}
 use Rattle.rules.specs.declared.Nearest.the-variants.{Entry, Nothing}
 use Rattle.rules.specs.Lists.{changeAt, snoc, occurs}
-use Rattle.rules.specs.Tree.{Tree, push, merge, nodeAt, entryAt, withNodes, withEntries, adding, listing, summed, rowsIn}
+use Rattle.rules.specs.Tree.{Tree, push, merge, nodeAt, entryAt, withNodes, withEntries, adding, withList, summed, rowCount}
 use Rattle.rules.specs.Descent.{searched, searching, leafFor, climbed, alongPath}
 use Rattle.rules.specs.Insert.{Item, rowItem, summaryItem, begun, absorbed, absorbs, absorbedOrBegun, placed, grownAt, grown}
-use Rattle.rules.specs.Split.{settled}
+use Rattle.rules.specs.Split.{splitFrom}
 use Rattle.rules.specs.Reinsert.{replaced}
 use Rattle.counting.specs.Lists.{length-change, snoc-length}
 use Rattle.laws.specs.Running.{splitUp-entries}
@@ -47,13 +47,13 @@ row-weighty s x = record { adds = adds′; first = push-zero s x; exact = push-w
     adds′ : Adds (push s x) 1
     adds′ a v h b = let e : suc v ≡ v + 1 = omega arith in subst (λ z. Exactly (push s x a) z) e (push-weigh s x a v h (omega arith))
 
-pub summary-weighty : (s : Settings) (e : Summary) → IsExact e → 1 ≤ rowsIn e → Weighty (summaryItem s e)
-summary-weighty s e x pos = record { adds = (λ a v h b. merge-weight s a e v (rowsIn e) h x b); first = first′; exact = x; some = pos }
+pub summary-weighty : (s : Settings) (e : Summary) → IsExact e → 1 ≤ rowCount e → Weighty (summaryItem s e)
+summary-weighty s e x pos = record { adds = (λ a v h b. merge-weight s a e v (rowCount e) h x b); first = first′; exact = x; some = pos }
   where
-    first′ : (z : Summary) → Zero (z .weight) → Exactly (merge s z e) (rowsIn e)
-    first′ z (inl q) = let k : 0 + rowsIn e ≡ rowsIn e = omega arith in
-        subst (λ n. Exactly (merge s z e) n) k (merge-weight s z e 0 (rowsIn e) (q, omega arith) x (let b = x .1 in omega arith))
-    first′ z (inr q) = copy (rowsIn e) x pos
+    first′ : (z : Summary) → Zero (z .weight) → Exactly (merge s z e) (rowCount e)
+    first′ z (inl q) = let k : 0 + rowCount e ≡ rowCount e = omega arith in
+        subst (λ n. Exactly (merge s z e) n) k (merge-weight s z e 0 (rowCount e) (q, omega arith) x (let b = x .1 in omega arith))
+    first′ z (inr q) = copy (rowCount e) x pos
       where
         copy : (n : ℕ) → Exactly e n → 1 ≤ n → Exactly (merge s z e) n
         copy zero x pos = absurd (omega arith)
@@ -113,7 +113,7 @@ module _ {s : Settings} (i : Item) (ok : Weighty i) where
             pick false = new
 
   first-in : (b : Bool) (z : Summary) (r : Running) → Zero (z .weight) → InLeaf s i b 0 (i .rows) (emptyTree z r)
-  unfolding found absorbedOrBegun searched searching alongPath climbed changeAt summed begun adding listing snoc withNodes withEntries nodeAt
+  unfolding found absorbedOrBegun searched searching alongPath climbed changeAt summed begun adding withList snoc withNodes withEntries nodeAt
   first-in true z r e = (nil, one-placed s (i .taken z) (i .alone) r (i .rows) (ok .first z e) (ok .exact) (ok .some))
   first-in false z r e = (nil, one-placed s (i .taken z) (i .alone) r (i .rows) (ok .first z e) (ok .exact) (ok .some))
 
@@ -134,7 +134,7 @@ module _ {s : Settings} (i : Item) (ok : Weighty i) where
             (w .0, join (w .1) (w .2) h l here leaf (found i b l (alongPath (i .taken) l t)) (found-hit i b l (alongPath (i .taken) l t)))
 
     -- splits done: the invariant, and its rows more
-    pub item-whole : Caps s → Whole s (settled s l (itemPlaced i b l t)) (total + i .rows)
+    pub item-whole : Caps s → Whole s (splitFrom s l (itemPlaced i b l t)) (total + i .rows)
     item-whole c = settled-whole s (itemPlaced i b l t) (item-placed .0) l (total + i .rows) c (item-placed .1)
 
 -- a row
@@ -149,8 +149,8 @@ grown-holds s x t total c k h =
     subst (λ n. Whole s (grown s i t) n) e (unfold found in item-whole i (row-weighty s x) true l t total k here leaf (omega arith) c)
 
 -- an entry placed again
-pub replaced-holds : (s : Settings) (e : Summary) (t : Tree) (total : ℕ) → Caps s → Holding s t total → IsExact e → 1 ≤ rowsIn e → total + rowsIn e ≤ most
-    → Whole s (replaced s e t) (total + rowsIn e)
+pub replaced-holds : (s : Settings) (e : Summary) (t : Tree) (total : ℕ) → Caps s → Holding s t total → IsExact e → 1 ≤ rowCount e → total + rowCount e ≤ most
+    → Whole s (replaced s e t) (total + rowCount e)
 unfolding replaced found absorbedOrBegun
 replaced-holds s e t total c k x pos b =
     let i = summaryItem s e in
@@ -177,7 +177,7 @@ module _ (i : Item) where
 
 -- splits leave the entries as the placing has them
 pub grown-entries : (s : Settings) (i : Item) (l : ℕ) (t : Tree) → (grownAt s i l t) .entries ≡ (itemPlaced i true l t) .entries
-unfolding grownAt placed settled found
+unfolding grownAt placed splitFrom found
 grown-entries s i l t =
     let v = itemPlaced i true l t in
     splitUp-entries s (length (v .nodes)) l v

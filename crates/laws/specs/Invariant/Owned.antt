@@ -8,7 +8,7 @@ use native.Mathlib.Omega.{arith}
 use lib.ListN.{length}
 use Rattle.feature.specs.Summaries.{blank}
 use Rattle.rules.specs.Lists.{occurs}
-use Rattle.rules.specs.Tree.{Tree, entryAt, rowsIn}
+use Rattle.rules.specs.Tree.{Tree, entryAt, rowCount}
 use Rattle.laws.specs.Invariant.Weights.{exact-count, blank-exact}
 use Rattle.counting.specs.Count.{lt?}
 use Rattle.counting.specs.Sums.{sumTo, sum-same}
@@ -19,7 +19,7 @@ use mathlib.Core.Path.{_≡_, sym, ap, _∙_}
 use mathlib.Core.Logic.{inl, inr}
 use mathlib.Core.List.{List}
 use native.Mathlib.Nat.{mul-one}
-use Rattle.rules.specs.Tree.{Tree, entryAt, rowsIn}
+use Rattle.rules.specs.Tree.{Tree, entryAt, rowCount}
 use Rattle.rules.specs.Lists.{occurs}
 use Rattle.counting.specs.Sums.{length-over, sumTo, sum-same}
 use Rattle.counting.specs.Totals.{over-sum}
@@ -30,7 +30,7 @@ Owned t a = (c : ℕ) → entryWeight t c ≡ occurs c a
 
 pub weight-past : (t : Tree) (c : ℕ) → length (t .entries) ≤ c → entryWeight t c ≡ 0
 unfolding entryWeight entryAt
-weight-past t c h = ap (λ e. rowsIn e) (past-end (t .entries) blank c h) ∙ exact-count blank 0 blank-exact
+weight-past t c h = ap (λ e. rowCount e) (past-end (t .entries) blank c h) ∙ exact-count blank 0 blank-exact
 
 -- whoever owns a row is an entry
 pub owner-in : (t : Tree) (a : List ℕ) → Owned t a → (c : ℕ) → 0 < occurs c a → c < length (t .entries)

@@ -7,17 +7,17 @@ use lib.ListN.{length}
 use Rattle.binary64.specs.Whole.{most}
 use Rattle.head.specs.declared.Settings.{Settings}
 use Rattle.head.specs.Limits.{Sized}
-use Rattle.rules.specs.Tree.{Tree, nodeAt, entryAt, child, cap, rowsIn}
+use Rattle.rules.specs.Tree.{Tree, nodeAt, entryAt, child, cap, rowCount}
 use Rattle.laws.specs.Invariant.Weights.{IsExact, weightOf}
 use Rattle.counting.specs.Count.{is}
 use Rattle.laws.specs.Invariant.Links.{Links, nil}
 use Rattle.laws.specs.Invariant.Weigh.{pick, Weighs}
 
 unfoldable pub entryWeight : Tree → ℕ → ℕ
-entryWeight t c = rowsIn (entryAt t c)
+entryWeight t c = rowCount (entryAt t c)
 
 unfoldable pub nodeWeight : Tree → ℕ → ℕ
-nodeWeight t k = rowsIn (nodeAt t k .summary)
+nodeWeight t k = rowCount (nodeAt t k .summary)
 
 -- weights that are whole numbers up to 2^53
 pub record Exact (t : Tree) (total : ℕ) : Type 0 where

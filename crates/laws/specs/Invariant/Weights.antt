@@ -11,7 +11,7 @@ use Rattle.feature.specs.Summaries.{blank}
 use Rattle.feature.specs.Weights.{blank-weight, pushed-weight, merged-weight}
 use Rattle.head.specs.declared.Settings.{Settings}
 use Rattle.rules.specs.Lists.{occurs}
-use Rattle.rules.specs.Tree.{Tree, push, merge, child, rowsIn}
+use Rattle.rules.specs.Tree.{Tree, push, merge, child, rowCount}
 use Rattle.rules.specs.Split.{gathered}
 use Rattle.counting.specs.Sums.{over, occurs-here, occurs-later}
 
@@ -21,14 +21,14 @@ Exactly e n = (e .weight ≡ whole n) × (n ≤ most)
 
 -- a summary whose weight is its count of rows
 abbrev pub IsExact : Summary → Type 0
-IsExact e = Exactly e (rowsIn e)
+IsExact e = Exactly e (rowCount e)
 
 abbrev pub AllExact : List Summary → Type 0
 AllExact [] = Unit
 AllExact (e ∷ es) = IsExact e × AllExact es
 
-pub exact-count : (e : Summary) (n : ℕ) → Exactly e n → rowsIn e ≡ n
-unfolding rowsIn
+pub exact-count : (e : Summary) (n : ℕ) → Exactly e n → rowCount e ≡ n
+unfolding rowCount
 exact-count e n h = ap (toUnsigned 64) (h .0) ∙ whole-back n (h .1)
 
 pub exact-is : (e : Summary) (n : ℕ) → Exactly e n → IsExact e
@@ -47,7 +47,7 @@ blank-exact = (blank-weight, omega arith)
 
 -- the number that a list's member c weighs
 unfoldable pub weightOf : Tree → Bool → ℕ → ℕ
-weightOf t l c = rowsIn (child t l c)
+weightOf t l c = rowCount (child t l c)
 
 module _ (s : Settings) (t : Tree) (l : Bool) where
   fold-exact : (ks : List ℕ) (a : Summary) (m : ℕ) → Exactly a m → ((c : ℕ) → 0 < occurs c ks → IsExact (child t l c)) → m + over (weightOf t l) ks ≤ most
@@ -55,7 +55,7 @@ module _ (s : Settings) (t : Tree) (l : Bool) where
   unfolding over weightOf
   fold-exact [] a m ha hc h = let e : m + 0 ≡ m = omega arith in subst (Exactly a) (sym e) ha
   fold-exact (c ∷ ks) a m ha hc h =
-      let n = rowsIn (child t l c) in
+      let n = rowCount (child t l c) in
       let here : IsExact (child t l c) = hc c (occurs-here c ks) in
       let one : Exactly (merge s a (child t l c)) (m + n) = merge-weight s a (child t l c) m n ha here (omega arith) in
       let r = fold-exact ks (merge s a (child t l c)) (m + n) one (λ d o. hc d (occurs-later d c ks o)) (omega arith) in

@@ -11,7 +11,7 @@ use Rattle.binary64.specs.Whole.{most}
 use Rattle.feature.specs.Summaries.{blank}
 use Rattle.head.specs.declared.Settings.{Settings}
 use Rattle.rules.specs.Lists.{countUp, occurs}
-use Rattle.rules.specs.Tree.{Tree, nodeAt, entryAt, blankNode, withNodes, withEntries, listing, cap, rowsIn}
+use Rattle.rules.specs.Tree.{Tree, nodeAt, entryAt, blankNode, withNodes, withEntries, withList, cap, rowCount}
 use Rattle.rules.specs.Rebuild.{renumber, keepNumbers, pruned, dropped}
 use Rattle.laws.specs.Invariant.Weights.{IsExact}
 use Rattle.counting.specs.Count.{is, below}
@@ -38,15 +38,15 @@ flag-le bs c = go (flag? bs c)
 -- ---- dropping lengthens no list
 
 pub node-is : (bs : List Bool) (u : Tree) (k : ℕ) → nodeAt (dropped bs u) k ≡ pruned bs (nodeAt u k)
-unfolding dropped withEntries withNodes nodeAt pruned listing keepNumbers filterMap blankNode
+unfolding dropped withEntries withNodes nodeAt pruned withList keepNumbers filterMap blankNode
 node-is bs u k = List·getD-map (pruned bs) (u .nodes) k blankNode
 
 pub dropped-leaf : (bs : List Bool) (u : Tree) (k : ℕ) → nodeAt (dropped bs u) k .leaf ≡ nodeAt u k .leaf
-unfolding pruned listing
+unfolding pruned withList
 dropped-leaf bs u k = ap (λ m. m .leaf) (node-is bs u k)
 
 pub dropped-lists : (bs : List Bool) (u : Tree) (k : ℕ) → length (nodeAt (dropped bs u) k .list) ≤ length (nodeAt u k .list)
-unfolding pruned listing
+unfolding pruned withList
 dropped-lists bs u k = subst (λ m. length (m .list) ≤ length (nodeAt u k .list)) (sym (node-is bs u k)) (go (nodeAt u k .leaf) (nodeAt u k .list))
   where
     go : (b : Bool) (l : List ℕ) → length (cond b (keepNumbers bs l) l) ≤ length l
@@ -70,19 +70,19 @@ module _ {s : Settings} (u : Tree) (bs : List Bool) {R : ℕ → ℕ} (total : �
   leaf-is = dropped-leaf bs u
 
   parent-is : (k : ℕ) → nodeAt (dropped bs u) k .parent ≡ nodeAt u k .parent
-  unfolding pruned listing
+  unfolding pruned withList
   parent-is k = ap (λ m. m .parent) (node-is bs u k)
 
   sum-is : (k : ℕ) → nodeAt (dropped bs u) k .summary ≡ nodeAt u k .summary
-  unfolding pruned listing
+  unfolding pruned withList
   sum-is k = ap (λ m. m .summary) (node-is bs u k)
 
   kids-leaf : (k : ℕ) → nodeAt u k .leaf ≡ true → nodeAt (dropped bs u) k .list ≡ keepNumbers bs (nodeAt u k .list)
-  unfolding pruned listing
+  unfolding pruned withList
   kids-leaf k f = ap (λ m. m .list) (node-is bs u k) ∙ ap (λ b. cond b (keepNumbers bs (nodeAt u k .list)) (nodeAt u k .list)) f
 
   kids-inner : (k : ℕ) → nodeAt u k .leaf ≡ false → nodeAt (dropped bs u) k .list ≡ nodeAt u k .list
-  unfolding pruned listing
+  unfolding pruned withList
   kids-inner k f = ap (λ m. m .list) (node-is bs u k) ∙ ap (λ b. cond b (keepNumbers bs (nodeAt u k .list)) (nodeAt u k .list)) f
 
   pub dropped-entries : length ((dropped bs u) .entries) ≡ countUp bs
@@ -99,7 +99,7 @@ module _ {s : Settings} (u : Tree) (bs : List Bool) {R : ℕ → ℕ} (total : �
 
   weight-is : (c : ℕ) → getD bs c false ≡ true → entryWeight (dropped bs u) (renumber bs c) ≡ entryWeight u c
   unfolding entryWeight
-  weight-is c e = ap (λ m. rowsIn m) (entry-is c e)
+  weight-is c e = ap (λ m. rowCount m) (entry-is c e)
 
   alive-same : (c : ℕ) → alive bs (λ c. entryWeight (dropped bs u) (renumber bs c)) c ≡ alive bs (entryWeight u) c
   alive-same c = go (flag? bs c)
@@ -232,7 +232,7 @@ module _ {s : Settings} (u : Tree) (bs : List Bool) {R : ℕ → ℕ} (total : �
         (leaves : (k : ℕ) → k < length (u .nodes) → nodeAt u k .leaf ≡ true → nodeWeight u k ≡ over (alive bs (entryWeight u)) (nodeAt u k .list)) where
       wt-is : (k : ℕ) → nodeWeight (dropped bs u) k ≡ nodeWeight u k
       unfolding nodeWeight
-      wt-is k = ap (λ m. rowsIn m) (sum-is k)
+      wt-is k = ap (λ m. rowCount m) (sum-is k)
 
       own′ : (k : ℕ) → k < length (u .nodes) → nodeWeight (dropped bs u) k
           ≡ own (nodeAt (dropped bs u) k) (entryWeight (dropped bs u)) (nodeWeight (dropped bs u))

@@ -12,7 +12,7 @@ use Rattle.feature.specs.Summaries.{blank}
 use Rattle.head.specs.declared.Settings.{Settings}
 use Rattle.head.specs.Limits.{both}
 use Rattle.rules.specs.Lists.{countUp, occurs}
-use Rattle.rules.specs.Tree.{merge, Tree, nodeAt, rowsIn}
+use Rattle.rules.specs.Tree.{merge, Tree, nodeAt, rowCount}
 use Rattle.rules.specs.declared.Pair.{Pair}
 use Rattle.rules.specs.Rebuild.{Merging, mergeOne, bothAlive, mergeAll, Guard, mergeable}
 use Rattle.laws.specs.Invariant.Weights.{IsExact, Exactly, exact-count, exact-is, merge-weight}
@@ -25,7 +25,7 @@ use Rattle.laws.specs.Inserting.Listed.{held-in, held-one}
 use Rattle.counting.specs.Flags.{alive, alive-up, alive-down, flag?, count-down, up-in}
 
 unfoldable pub mergeWeight : Settings → Merging → ℕ → ℕ
-mergeWeight s m c = rowsIn (getD (m .entries) c blank)
+mergeWeight s m c = rowCount (getD (m .entries) c blank)
 
 -- n entries, of total weight in all that live
 pub record Merged (s : Settings) (n total : ℕ) (m : Merging) : Type 0 where
@@ -134,12 +134,12 @@ module _ {s : Settings} {n total : ℕ} (p : Pair) {m : Merging} (small : total 
 
   w-a : w′ (p .one) ≡ w (p .one) + w (p .two)
   w-a =
-      unfold mergeWeight in (ap (λ e. rowsIn e) entry-a ∙ exact-count (merge s (getD (m .entries) (p .one) blank) (getD (m .entries) (p .two) blank))
+      unfold mergeWeight in (ap (λ e. rowCount e) entry-a ∙ exact-count (merge s (getD (m .entries) (p .one) blank) (getD (m .entries) (p .two) blank))
       (w (p .one) + w (p .two)) exact-a)
 
   w-o : (c : ℕ) → c ≢ p .one → w′ c ≡ w c
   unfolding mergeWeight
-  w-o c q = ap (λ e. rowsIn e) (entry-o c q)
+  w-o c q = ap (λ e. rowCount e) (entry-o c q)
 
   abbrev aw : ℕ → ℕ
   aw = alive (m .alive) (mergeWeight s m)

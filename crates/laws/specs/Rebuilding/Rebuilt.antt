@@ -10,7 +10,7 @@ use Rattle.feature.specs.declared.Summary.{Summary}
 use Rattle.feature.specs.Summaries.{blank}
 use Rattle.head.specs.declared.Settings.{Settings}
 use Rattle.rules.specs.Lists.{countUp, occurs}
-use Rattle.rules.specs.Tree.{Tree, nodeAt, entryAt, onRunning, withEntries, rowsIn}
+use Rattle.rules.specs.Tree.{Tree, nodeAt, entryAt, onRunning, withEntries, rowCount}
 use Rattle.rules.specs.Pairs.{sorted, siblings}
 use Rattle.rules.specs.declared.Pair.{Pair}
 use Rattle.rules.specs.Rebuild.{Merging, mergeAll, bothAlive, dropped, withMerges, target, pairsFrom, pairsOf, noneNear, across, mergeStart, mergesIn, counted, rebuilt, compacted, thinned, anyTwo, mergeable}
@@ -102,7 +102,7 @@ module _ {s : Settings} {t : Tree} {R : ℕ → ℕ} {total : ℕ} (g : Settled 
 
     sums-u : sumTo (alive (m .alive) (entryWeight u)) (length (u .entries)) ≡ total
     unfolding withMerges entryWeight entryAt mergeWeight onRunning withEntries
-    sums-u = ap (λ k. sumTo (alive (m .alive) (λ c. rowsIn (getD (m .entries) c blank))) k) (d .len-e) ∙ d .sums
+    sums-u = ap (λ k. sumTo (alive (m .alive) (λ c. rowCount (getD (m .entries) c blank))) k) (d .len-e) ∙ d .sums
 
     pub frame-v : Frame (nodeAt v) (length (v .nodes)) (v .root) (length (v .entries)) R
     frame-v = drop-frame u (m .alive) total links-u len-u live-u sums-u

@@ -11,7 +11,7 @@ use Rattle.binary64.specs.Whole.{most}
 use Rattle.feature.specs.declared.Summary.{Summary}
 use Rattle.head.specs.declared.Settings.{Settings}
 use Rattle.rules.specs.Lists.{occurs}
-use Rattle.rules.specs.Tree.{merge, Tree, nodeAt, entryAt, child, onRunning, rowsIn}
+use Rattle.rules.specs.Tree.{merge, Tree, nodeAt, entryAt, child, onRunning, rowCount}
 use Rattle.rules.specs.Refold.{foldBalanced}
 use Rattle.rules.specs.Rebuild.{counted}
 use Rattle.rules.specs.Check.{totalOf}
@@ -46,14 +46,14 @@ unfolding foldBalanced totalOf
 fold-weight s zero [] h c b = blank-exact
 fold-weight s zero (e ∷ l) h c b = absurd (not-suc-le-zero h)
 fold-weight s (suc k) [] h c b = blank-exact
-fold-weight s (suc k) (e ∷ []) h c b = let z : rowsIn e + 0 ≡ rowsIn e = omega arith in subst (λ y. Exactly e y) (sym z) (c .0)
+fold-weight s (suc k) (e ∷ []) h c b = let z : rowCount e + 0 ≡ rowCount e = omega arith in subst (λ y. Exactly e y) (sym z) (c .0)
 fold-weight s (suc k) (e ∷ d ∷ es) h c b =
     let l : List Summary = e ∷ d ∷ es in
     let m = length l / 2 in
     let lt : length (take m l) ≡ m = length-take-le m l (omega arith) in
     let ld : length (drop m l) ≡ length l - m = length-drop m l in
     let t : totalOf (take m l) + totalOf (drop m l) ≡ totalOf l = halves-total m l in
-    let t′ : totalOf (take m l) + totalOf (drop m l) ≡ rowsIn e + (rowsIn d + totalOf es) = t in
+    let t′ : totalOf (take m l) + totalOf (drop m l) ≡ rowCount e + (rowCount d + totalOf es) = t in
     let x : Exactly (foldBalanced s k (take m l)) (totalOf (take m l)) = fold-weight s k (take m l) (omega arith) (counts-take m l c) (omega arith) in
     let y : Exactly (foldBalanced s k (drop m l)) (totalOf (drop m l)) = fold-weight s k (drop m l) (omega arith) (counts-drop m l c) (omega arith) in
     subst (λ z. Exactly (merge s (foldBalanced s k (take m l)) (foldBalanced s k (drop m l))) z) t′

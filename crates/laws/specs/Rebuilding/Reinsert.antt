@@ -10,10 +10,10 @@ use Rattle.feature.specs.declared.Summary.{Summary}
 use Rattle.feature.specs.Summaries.{blank}
 use Rattle.head.specs.declared.Settings.{Settings}
 use Rattle.rules.specs.Lists.{snoc, occurs}
-use Rattle.rules.specs.Tree.{merge, distBetween, Tree, nodeAt, entryAt, blankNode, withNodes, withEntries, rowsIn}
+use Rattle.rules.specs.Tree.{merge, distBetween, Tree, nodeAt, entryAt, blankNode, withNodes, withEntries, rowCount}
 use Rattle.rules.specs.Descent.{leafFor, alongPath}
 use Rattle.rules.specs.Insert.{begun}
-use Rattle.rules.specs.Split.{settled}
+use Rattle.rules.specs.Split.{splitFrom}
 use Rattle.rules.specs.Reinsert.{collected, replaced, replacedAll, cleared, reinserted}
 use Rattle.rules.specs.Check.{totalOf}
 use Rattle.laws.specs.Invariant.Weights.{IsExact, blank-exact}
@@ -33,7 +33,7 @@ use Rattle.laws.specs.Invariant.Collected.{collect-sum}
 -- each a whole number of rows, one at least
 abbrev pub Rows : List Summary → Type 0
 Rows [] = Unit
-Rows (e ∷ es) = IsExact e × (1 ≤ rowsIn e) × Rows es
+Rows (e ∷ es) = IsExact e × (1 ≤ rowCount e) × Rows es
 
 rows-reverse : (l r : List Summary) → Rows l → Rows r → Rows (reverseAux l r)
 rows-reverse [] r a b = b
@@ -45,7 +45,7 @@ total-reverse [] r = omega arith
 total-reverse (e ∷ l) r = let h = total-reverse l (e ∷ r) in omega arith
 
 pub place-entries : (s : Settings) (e : Summary) (t : Tree) → (replaced s e t) .entries ≡ snoc (t .entries) e
-unfolding replaced settled begun withNodes withEntries alongPath
+unfolding replaced splitFrom begun withNodes withEntries alongPath
 place-entries s e t =
     let l = leafFor t (λ c. distBetween s c e) in
     let v = begun l e (alongPath (λ c. merge s c e) l t) in
@@ -58,10 +58,10 @@ unfolding replacedAll totalOf
 place-all s [] t total c g r b = (subst (λ z. Holding s t z) (let q : total ≡ total + 0 = omega arith in q) g, omega arith)
 place-all s (e ∷ es) t total c g r b =
     let w = replaced-holds s e t total c g (r .0) (r .1) (omega arith) in
-    let i = place-all s es (replaced s e t) (total + rowsIn e) c (inr w) (r .2) (omega arith) in
+    let i = place-all s es (replaced s e t) (total + rowCount e) c (inr w) (r .2) (omega arith) in
     let n : length ((replaced s e t) .entries) ≡ suc (length (t .entries)) = ap (λ l. length l) (place-entries s e t) ∙ snoc-length (t .entries) e in
     let m = i .1 in (
-      subst (λ z. Holding s (replacedAll s es (replaced s e t)) z) (let q : total + rowsIn e + totalOf es ≡ total + (rowsIn e + totalOf es) = omega arith in q)
+      subst (λ z. Holding s (replacedAll s es (replaced s e t)) z) (let q : total + rowCount e + totalOf es ≡ total + (rowCount e + totalOf es) = omega arith in q)
           (i .0),
       omega arith,
     )

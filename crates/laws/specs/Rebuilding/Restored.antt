@@ -10,7 +10,7 @@ use Rattle.binary64.specs.Whole.{most}
 use Rattle.feature.specs.declared.Summary.{Summary}
 use Rattle.feature.specs.Summaries.{blank}
 use Rattle.head.specs.declared.Settings.{Settings}
-use Rattle.rules.specs.Tree.{Node, Tree, nodeAt, entryAt, blankNode, withNodes, summed, child, rowsIn}
+use Rattle.rules.specs.Tree.{Node, Tree, nodeAt, entryAt, blankNode, withNodes, summed, child, rowCount}
 use Rattle.rules.specs.Refold.{foldBalanced, refoldOne, refoldAll, refolded, preorder}
 use Rattle.rules.specs.Lists.{occurs}
 use Rattle.rules.specs.Check.{totalOf}
@@ -129,7 +129,7 @@ module _ {s : Settings} {t : Tree} {R : ℕ → ℕ} {total : ℕ} (g : Stale s 
           go true e = over-same (weightOf v true) (entryWeight t) (nodeAt t i .list) (λ c o. same c) ∙ sym (due-leaf i l e)
             where
               same : (c : ℕ) → weightOf v true c ≡ entryWeight t c
-              same c = unfold weightOf child entryAt entryWeight in ap (λ es. rowsIn (getD es c blank)) (y .entries-as)
+              same c = unfold weightOf child entryAt entryWeight in ap (λ es. rowCount (getD es c blank)) (y .entries-as)
           go false e = over-same (weightOf v false) due (nodeAt t i .list) (λ c o. same c o) ∙ sym (due-inner i l e)
             where
               same : (c : ℕ) → 0 < occurs c (nodeAt t i .list) → weightOf v false c ≡ due c
@@ -180,7 +180,7 @@ module _ {s : Settings} {t : Tree} {R : ℕ → ℕ} {total : ℕ} (g : Stale s 
   settled-like v y d = (R, record { links = links′; exact = exact′; weighs = weighs′ }, counted′)
     where
       ew : (c : ℕ) → entryWeight v c ≡ entryWeight t c
-      ew c = unfold entryWeight entryAt in ap (λ es. rowsIn (getD es c blank)) (y .entries-as)
+      ew c = unfold entryWeight entryAt in ap (λ es. rowCount (getD es c blank)) (y .entries-as)
 
       len-e : length (v .entries) ≡ length (t .entries)
       len-e = ap (λ es. length es) (y .entries-as)
@@ -234,7 +234,7 @@ module _ {s : Settings} {t : Tree} {R : ℕ → ℕ} {total : ℕ} (g : Stale s 
       counted′ = same ∙ g .counts
         where
           same : sumTo (entryWeight v) (length (v .entries)) ≡ sumTo (entryWeight t) (length (t .entries))
-          same = unfold entryWeight entryAt in ap (λ es. sumTo (λ k. rowsIn (getD es k blank)) (length es)) (y .entries-as)
+          same = unfold entryWeight entryAt in ap (λ es. sumTo (λ k. rowCount (getD es k blank)) (length es)) (y .entries-as)
 
   -- the refold makes a stale tree settled
   pub refold-restores : Whole s (refolded s t) total

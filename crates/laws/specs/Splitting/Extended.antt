@@ -9,7 +9,7 @@ use native.Mathlib.Omega.{arith}
 use lib.ListN.{length, getD}
 use Rattle.head.specs.declared.Settings.{Settings}
 use Rattle.rules.specs.Lists.{changeAt, snoc}
-use Rattle.rules.specs.Tree.{Node, Tree, blankNode, nodeAt, withNodes, withRoot, under, adding, listing}
+use Rattle.rules.specs.Tree.{Node, Tree, blankNode, nodeAt, withNodes, withRoot, under, adding, withList}
 use Rattle.rules.specs.Split.{gathered, crowned}
 use Rattle.counting.specs.Count.{same?}
 use Rattle.laws.specs.Splitting.Tied.{Added}
@@ -22,7 +22,7 @@ abbrev pub extended : ℕ → ℕ → Tree → Tree
 extended p j t = withNodes (changeAt (adding j) p (t .nodes)) t
 
 pub extend-added : (t : Tree) (p j : ℕ) → p < length (t .nodes) → Added (nodeAt t) (nodeAt (extended p j t)) p j
-unfolding withNodes nodeAt adding listing
+unfolding withNodes nodeAt adding withList
 extend-added t p j l = record {
   kids-p = ap (λ m. m .list) (change-at (adding j) p blankNode (t .nodes) l);
   kids-o = (λ k d. ap (λ m. m .list) (change-off (adding j) p k blankNode (t .nodes) d));
@@ -31,7 +31,7 @@ extend-added t p j l = record {
 }
 
 pub extend-sum : (t : Tree) (p j k : ℕ) → nodeAt (extended p j t) k .summary ≡ nodeAt t k .summary
-unfolding withNodes nodeAt adding listing
+unfolding withNodes nodeAt adding withList
 extend-sum t p j k = change-keeps (λ m. m .summary) (adding j) p k blankNode (t .nodes) (λ m. refl)
 
 pub extend-length : (p j : ℕ) (t : Tree) → length ((extended p j t) .nodes) ≡ length (t .nodes)

@@ -8,7 +8,7 @@ use lib.ListN.{length}
 use Rattle.binary64.specs.Whole.{most}
 use Rattle.head.specs.declared.Settings.{Settings}
 use Rattle.rules.specs.Lists.{occurs}
-use Rattle.rules.specs.Tree.{Tree, nodeAt, child, rowsIn}
+use Rattle.rules.specs.Tree.{Tree, nodeAt, child, rowCount}
 use Rattle.rules.specs.Split.{split, gathered}
 use Rattle.laws.specs.Invariant.Weights.{IsExact, Exactly, exact-count, exact-is, gather-exact, weightOf}
 use Rattle.counting.specs.Count.{is, below-lt, same?}
@@ -86,20 +86,20 @@ module _ {s : Settings} {t : Tree} {R : ℕ → ℕ} (i : ℕ) {total : ℕ} (g 
     w-i : nodeWeight (split s i t) i ≡ over (pick (nodeAt t i .leaf) (entryWeight t) (nodeWeight t)) (stayList s t i)
     unfolding nodeWeight
     w-i =
-        ap (λ e. rowsIn e) (split-sum-i s t i l)
+        ap (λ e. rowCount e) (split-sum-i s t i l)
         ∙ exact-count (gathered s t (nodeAt t i .leaf) (stayList s t i)) (over (weightOf t (nodeAt t i .leaf)) (stayList s t i)) stay-exact
         ∙ ap (λ w. over w (stayList s t i)) (weight-pick t (nodeAt t i .leaf))
 
     w-n : nodeWeight (split s i t) (length (t .nodes)) ≡ over (pick (nodeAt t i .leaf) (entryWeight t) (nodeWeight t)) (moveList s t i)
     unfolding nodeWeight
     w-n =
-        ap (λ e. rowsIn e) (split-sum-n s t i l)
+        ap (λ e. rowCount e) (split-sum-n s t i l)
         ∙ exact-count (gathered s t (nodeAt t i .leaf) (moveList s t i)) (over (weightOf t (nodeAt t i .leaf)) (moveList s t i)) move-exact
         ∙ ap (λ w. over w (moveList s t i)) (weight-pick t (nodeAt t i .leaf))
 
     w-o : (k : ℕ) → k ≢ i → k ≢ length (t .nodes) → nodeWeight (split s i t) k ≡ nodeWeight t k
     unfolding nodeWeight
-    w-o k d e = ap (λ e. rowsIn e) (split-sum-o s t i l k d e)
+    w-o k d e = ap (λ e. rowCount e) (split-sum-o s t i l k d e)
 
     pub short-of : Short (nodeAt (split s i t)) (entryWeight t) (nodeWeight (split s i t)) (suc (length (t .nodes))) (t .root) total i (length (t .nodes))
     short-of = short (nodeWeight (split s i t))

@@ -9,7 +9,7 @@ use native.Mathlib.Omega.{arith}
 use lib.Dec.{T, leb→le, nleb→lt}
 use lib.ListN.{length}
 use Rattle.head.specs.declared.Settings.{Settings}
-use Rattle.rules.specs.Tree.{Tree, nodeAt, entryAt, child, cap, withNodes, withRoot, rowsIn}
+use Rattle.rules.specs.Tree.{Tree, nodeAt, entryAt, child, cap, withNodes, withRoot, rowCount}
 use Rattle.rules.specs.Split.{split, crowned, fitting, splitNext, splitIf, splitUp, parted, gathered}
 use Rattle.rules.specs.Lists.{occurs}
 use Rattle.laws.specs.Invariant.Weights.{IsExact, Exactly, exact-count, exact-is, gather-exact, weightOf}
@@ -121,13 +121,13 @@ module _ {s : Settings} {t : Tree} {R : ℕ → ℕ} (i : ℕ) {total : ℕ} (g 
     top-weight : nodeWeight done (length ((split s i t) .nodes)) ≡ nodeWeight (split s i t) i + nodeWeight (split s i t) (length (t .nodes))
     unfolding nodeWeight weightOf child over
     top-weight =
-        ap (λ m. rowsIn (m .summary)) (crowned-n s (split s i t) i (length (t .nodes)) li lj)
+        ap (λ m. rowCount (m .summary)) (crowned-n s (split s i t) i (length (t .nodes)) li lj)
         ∙ exact-count (gathered s (split s i t) false (i ∷ length (t .nodes) ∷ [])) (over (weightOf (split s i t) false) (i ∷ length (t .nodes) ∷ [])) exact-top
         ∙ omega arith
 
     old-weight : (k : ℕ) → k ≢ length ((split s i t) .nodes) → nodeWeight done k ≡ nodeWeight (split s i t) k
     unfolding nodeWeight
-    old-weight k d = ap (λ m. rowsIn m) (crowned-sum s (split s i t) i (length (t .nodes)) li lj k d)
+    old-weight k d = ap (λ m. rowCount m) (crowned-sum s (split s i t) i (length (t .nodes)) li lj k d)
 
     pub R₀ : ℕ → ℕ
     R₀ = put (put R (length (t .nodes)) (R i)) (length ((split s i t) .nodes)) (suc (put R (length (t .nodes)) (R i) i))
@@ -204,7 +204,7 @@ module _ {s : Settings} {t : Tree} {R : ℕ → ℕ} (i : ℕ) {total : ℕ} (g 
 
     same-weight : (k : ℕ) → nodeWeight next k ≡ nodeWeight (split s i t) k
     unfolding nodeWeight
-    same-weight k = ap (λ m. rowsIn m) (extend-sum (split s i t) p (length (t .nodes)) k)
+    same-weight k = ap (λ m. rowCount m) (extend-sum (split s i t) p (length (t .nodes)) k)
 
     weighs₂ : Weighs (nodeAt next) (entryWeight t) (nodeWeight next) (length ((split s i t) .nodes)) (t .root) total
     weighs₂ = tied-weighs (suc (R i))

@@ -1,4 +1,4 @@
--- `listed::below` meets its contract: the numbers at the places passed are below the bound.
+-- `lists::below` meets its contract: the numbers at the places passed are below the bound.
 use Prim.Native.Nat.{_-_, _≤_}
 use mathlib.Core.Path.{sym, ap, _∙_}
 use native.Mathlib.Omega.{arith}

@@ -1,4 +1,4 @@
--- `listed::cap` meets its contract: a case each.
+-- `lists::cap` meets its contract: a case each.
 use Rattle.rules.specs.Tree.{cap}
 use Rattle.lists.proofs.cap.Statement.{statement}
 use Rattle.lists.proofs.cap.Tie as tie

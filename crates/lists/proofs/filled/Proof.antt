@@ -1,4 +1,4 @@
--- `listed::filled` meets its contract: every node passed is filled.
+-- `lists::filled` meets its contract: every node passed is filled.
 use Prim.Native.Nat.{_-_, _≤_}
 use mathlib.Core.Path.{_∙_}
 use mathlib.Core.Bool.{_&&_, _||_}

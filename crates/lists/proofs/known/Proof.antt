@@ -1,4 +1,4 @@
--- `listed::known` meets its contract: the counts of the tree are those of the counters.
+-- `lists::known` meets its contract: the counts of the tree are those of the counters.
 use mathlib.Core.Path.{sym}
 use Rattle.rules.specs.Check.{known}
 use Rattle.arena.specs.Trees.{count-nodes, count-entries}

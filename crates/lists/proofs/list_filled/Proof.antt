@@ -1,4 +1,4 @@
--- `listed::list_filled` meets its contract: a test each.
+-- `lists::list_filled` meets its contract: a test each.
 use borrow.Author.Tests.{not-true, not-false, lt-ltb, le-ltb, eq-eqb, ne-eqb}
 use Rattle.rules.specs.Check.{loneRoot}
 use Rattle.arena.specs.Trees.{count-nodes, count-entries}

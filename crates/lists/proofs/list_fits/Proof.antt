@@ -1,4 +1,4 @@
--- `listed::list_fits` meets its contract: a test each.
+-- `lists::list_fits` meets its contract: a test each.
 use mathlib.Core.Path.{ap, _∙_}
 use borrow.Author.Needs.{needs}
 use borrow.Author.Tests.{le-leb, lt-leb}

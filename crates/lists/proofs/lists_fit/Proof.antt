@@ -1,4 +1,4 @@
--- `listed::lists_fit` meets its contract: every list passed fits.
+-- `lists::lists_fit` meets its contract: every list passed fits.
 use Prim.Native.Nat.{_-_, _≤_}
 use mathlib.Core.Path.{_∙_}
 use native.Mathlib.Omega.{arith}

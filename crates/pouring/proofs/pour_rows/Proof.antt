@@ -8,7 +8,7 @@ use Rattle.rules.specs.Lists.{rowsOf}
 use Rattle.rules.specs.Tree.{Tree}
 use Rattle.rules.specs.Slices.{treeOf}
 use Rattle.rules.specs.Refit.{poured}
-use Rattle.rows.specs.Rows.{row-in, row-wide}
+use Rattle.rows.specs.Rows.{row-there, row-wide}
 use Rattle.scratch.specs.Slots.{slotsIn, slot-there}
 use Rattle.pouring.specs.Pouring.{pouredFrom, pour-start, pour-turn, pour-end}
 use Rattle.pouring.proofs.pour_rows.Statement.{statement}
@@ -39,7 +39,7 @@ wide : (c : tie.After-row Inv-loop μ-loop) → length (c .row .result .now) ≡
 wide c =
     let start = start (turn c) in
     let a = start .args in
-    let there = row-in (a .s) (a .count) (turn c .loop .k) (length (a .rows .now)) (c .before .loop-test .taken) (start .pre .1 .0) in
+    let there = row-there (a .s) (a .count) (turn c .loop .k) (length (a .rows .now)) (c .before .loop-test .taken) (start .pre .1 .0) in
     ap length (c .row .ensures) ∙ row-wide (a .s) (a .rows .now) (turn c .loop .k) there
 
 loop-holds : tie.Need-loop-holds Inv-loop μ-loop
@@ -51,7 +51,7 @@ loop-holds c =
 row-requires : tie.Need-row-requires Inv-loop μ-loop
 row-requires c κs =
     let start = start (c .before) in
-    row-in (start .args .s) (start .args .count) (c .before .loop .k) (length (start .args .rows .now)) (c .loop-test .taken) (start .pre .1 .0)
+    row-there (start .args .s) (start .args .count) (c .before .loop .k) (length (start .args .rows .now)) (c .loop-test .taken) (start .pre .1 .0)
 
 route-requires : tie.Need-route-requires Inv-loop μ-loop
 route-requires c κs =

@@ -14,7 +14,7 @@ use Rattle.rules.specs.declared.Nearest.{Nearest}
 use Rattle.rules.specs.declared.Nearest.the-variants.{Entry, Nothing}
 use Rattle.rules.specs.Lists.{changeAt, snoc, occurs}
 use Rattle.rules.specs.Tree.{Tree, nodeAt, entryAt, summed, withNodes, withEntries}
-use Rattle.rules.specs.Split.{splitUp, settled}
+use Rattle.rules.specs.Split.{splitUp, splitFrom}
 use Rattle.rules.specs.Descent.{searching, searched, alongPath}
 use Rattle.rules.specs.Insert.{begun, absorbed, absorbedOrBegun, placed, grownAt, absorbs, Item}
 use Rattle.promises.specs.Demand.{winner, OneEntry, took, began}
@@ -59,7 +59,7 @@ winner-found i l t = ap (searched (λ e. i .near (getD (t .entries) e blank))) (
 -- an item in alters one entry, within the threshold, or adds one
 pub grown-one : (s : Settings) (i : Item) (l : ℕ) (t : Tree) (total : ℕ) → Holding s t total → l < length (t .nodes) → nodeAt t l .leaf ≡ true
     → OneEntry i l t (grownAt s i l t)
-unfolding grownAt settled placed
+unfolding grownAt splitFrom placed
 grown-one s i l t total k here leaf = go (searched (λ e. i .near (entryAt u e)) (nodeAt u l .list)) (winner-found i l t)
   where
     u : Tree

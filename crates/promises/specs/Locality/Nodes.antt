@@ -14,8 +14,8 @@ use Rattle.head.specs.declared.Settings.{Settings}
 use Rattle.rules.specs.declared.Nearest.{Nearest}
 use Rattle.rules.specs.declared.Nearest.the-variants.{Entry, Nothing}
 use Rattle.rules.specs.Lists.{changeAt, occurs}
-use Rattle.rules.specs.Tree.{Node, Tree, nodeAt, entryAt, blankNode, cap, adding, listing, summed, withNodes, withEntries}
-use Rattle.rules.specs.Split.{split, crowned, fitting, splitNext, splitIf, splitUp, settled}
+use Rattle.rules.specs.Tree.{Node, Tree, nodeAt, entryAt, blankNode, cap, adding, withList, summed, withNodes, withEntries}
+use Rattle.rules.specs.Split.{split, crowned, fitting, splitNext, splitIf, splitUp, splitFrom}
 use Rattle.rules.specs.Descent.{searched, climbed, alongPath}
 use Rattle.rules.specs.Insert.{begun, absorbed, absorbedOrBegun, placed, grownAt, absorbs, Item}
 use Rattle.promises.specs.Demand.{Moved, Same}
@@ -238,7 +238,7 @@ join-kept P n i l (Entry e) t pl = go (absorbs i e t)
         (λ e. off (subst P (sym e) pl)))
 
 join-parent : (i : Item) (l : ℕ) (r : Nearest) (t : Tree) (k : ℕ) → nodeAt (absorbedOrBegun i l r t) k .parent ≡ nodeAt t k .parent
-unfolding absorbedOrBegun begun absorbed withEntries withNodes nodeAt adding listing
+unfolding absorbedOrBegun begun absorbed withEntries withNodes nodeAt adding withList
 join-parent i l Nothing t k = change-keeps (λ m. m .parent) (adding (length (t .entries))) l k blankNode (t .nodes) (λ m. refl)
 join-parent i l (Entry e) t k = go (absorbs i e t)
   where
@@ -259,7 +259,7 @@ join-length i l (Entry e) t = go (absorbs i e t)
 pub grown-kept : (s : Settings) (i : Item) (l : ℕ) (t : Tree) (R : ℕ → ℕ) (old : ℕ) → Weighty i → Caps s → Settled s t R old → Counted t old → old + i .rows ≤ most
     → l < length (t .nodes) → nodeAt t l .leaf ≡ true
     → (P : ℕ → Type 0) → ((k : ℕ) → length (t .nodes) ≤ k → P k) → P l → Upward P t → Spared P (length (t .nodes)) t (grownAt s i l t)
-unfolding grownAt placed settled
+unfolding grownAt placed splitFrom
 grown-kept s i l t R old ok c g n b here leaf P new pl up =
     let F : Summary → Summary = i .taken in
     let u = alongPath F l t in

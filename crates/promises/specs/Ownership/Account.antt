@@ -10,7 +10,7 @@ use lib.ListN.{length, getD}
 use lib.Ieee.{eq}
 use Rattle.binary64.specs.Whole.{whole, most}
 use Rattle.head.specs.declared.Settings.{Settings}
-use Rattle.rules.specs.Tree.{Tree, nodeAt, entryAt, rowsIn}
+use Rattle.rules.specs.Tree.{Tree, nodeAt, entryAt, rowCount}
 use Rattle.rules.specs.Lists.{occurs}
 use Rattle.rules.specs.Reinsert.{collected}
 use Rattle.counting.specs.Count.{is}
@@ -65,7 +65,7 @@ module _ (s : Settings) (t : Tree) (total : ℕ) (a : List ℕ) (w : Whole s t t
   pub nodes-exact : NodesExact t a
   nodes-exact k h = w .1 .exact .at-node k h .0 ∙ ap (λ n. whole n) (sym read ∙ rows-beneath k h)
     where
-      read : nodeWeight t k ≡ rowsIn (nodeAt t k .summary)
+      read : nodeWeight t k ≡ rowCount (nodeAt t k .summary)
       read = unfold nodeWeight in refl
 
   pub owned-account : Account t a
@@ -78,7 +78,7 @@ module _ (s : Settings) (t : Tree) (total : ℕ) (a : List ℕ) (w : Whole s t t
         ∙ eq-eqb (rowsAmong (collected t (length (t .nodes)) (k ∷ [])) a) (rowsAmong (collected t (length (t .nodes)) (k ∷ [])) a) refl);
   }
     where
-      read : (c : ℕ) → entryWeight t c ≡ rowsIn (entryAt t c)
+      read : (c : ℕ) → entryWeight t c ≡ rowCount (entryAt t c)
       read c = unfold entryWeight in refl
 
       small : (k : ℕ) → k < length (t .nodes) → nodeWeight t k ≤ most

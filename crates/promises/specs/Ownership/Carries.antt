@@ -15,7 +15,7 @@ use Rattle.head.specs.declared.Settings.{Settings}
 use Rattle.rules.specs.declared.Nearest.{Nearest}
 use Rattle.rules.specs.declared.Nearest.the-variants.{Entry, Nothing}
 use Rattle.rules.specs.Lists.{changeAt, snoc, countUp, occurs}
-use Rattle.rules.specs.Tree.{push, merge, Tree, entryAt, withNodes, withEntries, rowsIn}
+use Rattle.rules.specs.Tree.{push, merge, Tree, entryAt, withNodes, withEntries, rowCount}
 use Rattle.rules.specs.Insert.{begun, absorbed, absorbedOrBegun, absorbs, rowItem}
 use Rattle.rules.specs.declared.Pair.{Pair}
 use Rattle.rules.specs.Rebuild.{renumber, dropped}
@@ -68,18 +68,18 @@ module _ (s : Settings) (x : List Float) (t : Tree) (exact : (c : ℕ) → c < l
   unfolding begun withNodes withEntries entryWeight entryAt
   new-one l c = go (same? c (length (t .entries)))
     where
-      go : (c ≡ length (t .entries)) ⊎ (c ≢ length (t .entries)) → rowsIn (getD (snoc (t .entries) (push s x blank)) c blank)
-          ≡ rowsIn (getD (t .entries) c blank) + is c (length (t .entries))
+      go : (c ≡ length (t .entries)) ⊎ (c ≢ length (t .entries)) → rowCount (getD (snoc (t .entries) (push s x blank)) c blank)
+          ≡ rowCount (getD (t .entries) c blank) + is c (length (t .entries))
       go (inl q) =
-          let a : rowsIn (getD (snoc (t .entries) (push s x blank)) c blank) ≡ 1 =
-          ap (λ k. rowsIn (getD (snoc (t .entries) (push s x blank)) k blank)) q ∙ ap (λ m. rowsIn m) (snoc-at (t .entries) (push s x blank) blank)
+          let a : rowCount (getD (snoc (t .entries) (push s x blank)) c blank) ≡ 1 =
+          ap (λ k. rowCount (getD (snoc (t .entries) (push s x blank)) k blank)) q ∙ ap (λ m. rowCount m) (snoc-at (t .entries) (push s x blank) blank)
           ∙ exact-count (push s x blank) 1 (push-weigh s x blank 0 blank-exact (omega arith)) in
-          let b : rowsIn (getD (t .entries) c blank) ≡ 0 = weight-past t c (omega arith) in
+          let b : rowCount (getD (t .entries) c blank) ≡ 0 = weight-past t c (omega arith) in
           let d = is-same c (length (t .entries)) q in
           omega arith
       go (inr q) =
-          let a : rowsIn (getD (snoc (t .entries) (push s x blank)) c blank) ≡ rowsIn (getD (t .entries) c blank) =
-          ap (λ m. rowsIn m) (snoc-off (t .entries) (push s x blank) blank c q) in
+          let a : rowCount (getD (snoc (t .entries) (push s x blank)) c blank) ≡ rowCount (getD (t .entries) c blank) =
+          ap (λ m. rowCount m) (snoc-off (t .entries) (push s x blank) blank c q) in
           let d = is-other c (length (t .entries)) q in
           omega arith
 
@@ -87,18 +87,18 @@ module _ (s : Settings) (x : List Float) (t : Tree) (exact : (c : ℕ) → c < l
   unfolding absorbed withEntries entryWeight entryAt
   fed-one e c h = go (same? c e)
     where
-      go : (c ≡ e) ⊎ (c ≢ e) → rowsIn (getD (changeAt (push s x) e (t .entries)) c blank) ≡ rowsIn (getD (t .entries) c blank) + is c e
+      go : (c ≡ e) ⊎ (c ≢ e) → rowCount (getD (changeAt (push s x) e (t .entries)) c blank) ≡ rowCount (getD (t .entries) c blank) + is c e
       go (inl q) =
-          let a : rowsIn (getD (changeAt (push s x) e (t .entries)) c blank) ≡ suc (rowsIn (getD (t .entries) e blank)) =
-          ap (λ k. rowsIn (getD (changeAt (push s x) e (t .entries)) k blank)) q ∙ ap (λ m. rowsIn m) (change-at (push s x) e blank (t .entries) h)
-          ∙ exact-count (push s x (getD (t .entries) e blank)) (suc (rowsIn (getD (t .entries) e blank)))
-          (push-weigh s x (getD (t .entries) e blank) (rowsIn (getD (t .entries) e blank)) (exact e h .0) (exact e h .1)) in
-          let b : rowsIn (getD (t .entries) c blank) ≡ rowsIn (getD (t .entries) e blank) = ap (λ k. rowsIn (getD (t .entries) k blank)) q in
+          let a : rowCount (getD (changeAt (push s x) e (t .entries)) c blank) ≡ suc (rowCount (getD (t .entries) e blank)) =
+          ap (λ k. rowCount (getD (changeAt (push s x) e (t .entries)) k blank)) q ∙ ap (λ m. rowCount m) (change-at (push s x) e blank (t .entries) h)
+          ∙ exact-count (push s x (getD (t .entries) e blank)) (suc (rowCount (getD (t .entries) e blank)))
+          (push-weigh s x (getD (t .entries) e blank) (rowCount (getD (t .entries) e blank)) (exact e h .0) (exact e h .1)) in
+          let b : rowCount (getD (t .entries) c blank) ≡ rowCount (getD (t .entries) e blank) = ap (λ k. rowCount (getD (t .entries) k blank)) q in
           let d = is-same c e q in
           omega arith
       go (inr q) =
-          let a : rowsIn (getD (changeAt (push s x) e (t .entries)) c blank) ≡ rowsIn (getD (t .entries) c blank) =
-          ap (λ m. rowsIn m) (change-off (push s x) e c blank (t .entries) q) in
+          let a : rowCount (getD (changeAt (push s x) e (t .entries)) c blank) ≡ rowCount (getD (t .entries) c blank) =
+          ap (λ m. rowCount m) (change-off (push s x) e c blank (t .entries) q) in
           let d = is-other c e q in
           omega arith
 
@@ -142,7 +142,7 @@ merge-carries s p d X Y h1 h2 h3 l1 l2 e1 e2 a h = (
 module _ (s : Settings) (u : Tree) (bs : List Bool) (len : length bs ≡ length (u .entries)) where
   weight-is : (c : ℕ) → getD bs c false ≡ true → entryWeight (dropped bs u) (renumber bs c) ≡ entryWeight u c
   unfolding entryWeight dropped withEntries withNodes entryAt
-  weight-is c e = ap (λ m. rowsIn m) (keep-at bs (u .entries) c blank len e)
+  weight-is c e = ap (λ m. rowCount m) (keep-at bs (u .entries) c blank len e)
 
   -- the entry itself goes by the same number
   pub dropped-to : (c : ℕ) → getD bs c false ≡ true → entryAt (dropped bs u) (renumber bs c) ≡ entryAt u c

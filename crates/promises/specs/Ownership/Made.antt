@@ -10,7 +10,7 @@ use Rattle.feature.specs.declared.Summary.{Summary}
 use Rattle.feature.specs.Summaries.{blank}
 use Rattle.head.specs.declared.Settings.{Settings}
 use Rattle.rules.specs.Lists.{snoc, occurs}
-use Rattle.rules.specs.Tree.{push, rowsIn}
+use Rattle.rules.specs.Tree.{push, rowCount}
 use Rattle.promises.specs.Demand.{Origin, called, behind, originAt, owns, Made, empty, taking, lent, joining, alike}
 use Rattle.laws.specs.Invariant.Weights.{exact-count, blank-exact}
 use Rattle.counting.specs.Count.{is, is-same, is-other, same?, lt?}
@@ -98,7 +98,7 @@ made-as {s} {ys} e f p q m h k = subst (λ z. Made s ys z q) h (alike m k)
 -- a row of a call stands for itself, one behind an entry for as many as the entry weighs
 unfoldable standsFor : Origin → ℕ
 standsFor (called x) = 1
-standsFor (behind e k) = rowsIn e
+standsFor (behind e k) = rowCount e
 
 -- what something is made of stands before the end
 origin-in : (ys : List Origin) (i : ℕ) (o : Origin) → originAt ys i ≡ o → 0 < standsFor o → i < length ys
@@ -137,10 +137,10 @@ made-row : {s : Settings} {ys : List Origin} {e : Summary} {p : ℕ → ℕ} (x 
 made-row {s} {ys} x m = taking (length ys) x (unfold originAt in snoc-at ys (called x) (behind blank 0)) (made-kept (called x) m)
 
 -- among rows of calls nothing stands behind an entry: what is made of them is made without lent entries
-pub none-behind : (xs : List (List Float)) (i : ℕ) (e : Summary) (k : ℕ) → 0 < rowsIn e → originAt (map called xs) i ≡ behind e k → ⊥
+pub none-behind : (xs : List (List Float)) (i : ℕ) (e : Summary) (k : ℕ) → 0 < rowCount e → originAt (map called xs) i ≡ behind e k → ⊥
 unfolding originAt
 none-behind [] i e k pos q =
-    let z : standsFor (behind e k) ≡ rowsIn e = unfold standsFor in refl in let l = origin-in [] i (behind e k) (unfold originAt in q) (omega arith) in omega arith
+    let z : standsFor (behind e k) ≡ rowCount e = unfold standsFor in refl in let l = origin-in [] i (behind e k) (unfold originAt in q) (omega arith) in omega arith
 none-behind (x ∷ xs) zero e k pos q = let z : _≡_ {A = ℕ} 0 1 = cc in omega arith
 none-behind (x ∷ xs) (suc i) e k pos q = none-behind xs i e k pos (unfold originAt in q)
 

@@ -11,7 +11,7 @@ use Rattle.feature.specs.declared.Summary.{Summary}
 use Rattle.feature.specs.Summaries.{blank}
 use Rattle.head.specs.declared.Settings.{Settings}
 use Rattle.rules.specs.Lists.{snoc, occurs}
-use Rattle.rules.specs.Tree.{Tree, nodeAt, entryAt, onRunning, withEntries, rowsIn}
+use Rattle.rules.specs.Tree.{Tree, nodeAt, entryAt, onRunning, withEntries, rowCount}
 use Rattle.rules.specs.Pairs.{sorted}
 use Rattle.rules.specs.declared.Pair.{Pair}
 use Rattle.rules.specs.Rebuild.{Merging, mergeOne, bothAlive, mergeAll, target, renumber, dropped, pairsOf, mergeStart, mergesIn, thinned, Guard, anyTwo, mergeable}
@@ -112,11 +112,11 @@ module _ (s : Settings) (t : Tree) {R : ℕ → ℕ} (g : Frame (nodeAt t) (leng
   unfolding entryWeight
   weight-at k =
       begin
-      ∙ ap (λ d. rowsIn (getD (map (entryAt t) (reverse (collected t (length (t .nodes)) (t .root ∷ [])))) k d)) (sym end)
-      ∙ ap (λ m. rowsIn m) (List·getD-map (entryAt t) (reverse (collected t (length (t .nodes)) (t .root ∷ []))) k (length (t .entries)))
+      ∙ ap (λ d. rowCount (getD (map (entryAt t) (reverse (collected t (length (t .nodes)) (t .root ∷ [])))) k d)) (sym end)
+      ∙ ap (λ m. rowCount m) (List·getD-map (entryAt t) (reverse (collected t (length (t .nodes)) (t .root ∷ []))) k (length (t .entries)))
     where
-      begin : entryWeight (reinserted s t) k ≡ rowsIn (getD (map (entryAt t) (reverse (collected t (length (t .nodes)) (t .root ∷ [])))) k blank)
-      begin = unfold entryWeight entryAt in ap (λ l. rowsIn (getD l k blank)) entries-are
+      begin : entryWeight (reinserted s t) k ≡ rowCount (getD (map (entryAt t) (reverse (collected t (length (t .nodes)) (t .root ∷ [])))) k blank)
+      begin = unfold entryWeight entryAt in ap (λ l. rowCount (getD l k blank)) entries-are
 
       end : entryAt t (length (t .entries)) ≡ blank
       end = unfold entryAt in past-end (t .entries) blank (length (t .entries)) (omega arith)
@@ -237,7 +237,7 @@ module _ {s : Settings} {t : Tree} {R : ℕ → ℕ} {total : ℕ} (g : Settled 
           (drop-moves d (omega arith))
 
       folds : (v : Tree) → Carries s (λ c. c) (heldBy v) (heldBy (refolded s v))
-      folds v = carries-same s (heldBy v) (heldBy (refolded s v)) (λ c. unfold entryWeight in ap (λ e. rowsIn e) (same c)) same
+      folds v = carries-same s (heldBy v) (heldBy (refolded s v)) (λ c. unfold entryWeight in ap (λ e. rowCount e) (same c)) same
         where
           same : (c : ℕ) → entryAt (refolded s v) c ≡ entryAt v c
           same c = unfold entryAt in ap (λ l. getD l c blank) (refolded-entries s v)

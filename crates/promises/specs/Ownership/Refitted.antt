@@ -10,7 +10,7 @@ use lib.Ieee.{Float}
 use Rattle.binary64.specs.Whole.{most}
 use Rattle.feature.specs.Summaries.{blank}
 use Rattle.head.specs.declared.Settings.{Settings}
-use Rattle.rules.specs.Tree.{Tree, nodeAt, entryAt, rowsIn}
+use Rattle.rules.specs.Tree.{Tree, nodeAt, entryAt, rowCount}
 use Rattle.rules.specs.Rebuild.{renumber}
 use Rattle.rules.specs.Reinsert.{reinserted}
 use Rattle.rules.specs.Refold.{refolded}
@@ -103,7 +103,7 @@ refit-owned s way names x xs t old a c whole pos small = go (eqb (length (t .ent
     same-at c = unfold entryAt in ap (λ l. getD l c blank) (refolded-entries s v)
 
     weighs : (c : ℕ) → entryWeight (refolded s v) c ≡ entryWeight v c
-    weighs c = unfold entryWeight in ap (λ e. rowsIn e) (same-at c)
+    weighs c = unfold entryWeight in ap (λ e. rowCount e) (same-at c)
 
     go : (p : Bool) → eqb (length (t .entries)) 0 ≡ p → Accounted s (x ∷ xs) (cond p t (refolded s v)) (cond p a o)
     go true e = let z = eq-test (length (t .entries)) 0 true e .0 refl in absurd (omega arith)

@@ -15,10 +15,10 @@ use Rattle.head.specs.declared.Settings.{Settings}
 use Rattle.rules.specs.declared.Nearest.{Nearest}
 use Rattle.rules.specs.declared.Nearest.the-variants.{Entry, Nothing}
 use Rattle.rules.specs.Lists.{changeAt, snoc}
-use Rattle.rules.specs.Tree.{push, distTo, Tree, nodeAt, entryAt, withNodes, withEntries, rowsIn}
+use Rattle.rules.specs.Tree.{push, distTo, Tree, nodeAt, entryAt, withNodes, withEntries, rowCount}
 use Rattle.rules.specs.Descent.{searched, leafFor, alongPath}
 use Rattle.rules.specs.Insert.{begun, absorbed, placed, absorbedOrBegun, grownAt, grown, absorbs, rowItem}
-use Rattle.rules.specs.Split.{settled}
+use Rattle.rules.specs.Split.{splitFrom}
 use Rattle.rules.specs.Rebuild.{rebuilt}
 use Rattle.laws.specs.Invariant.Weights.{IsExact}
 use Rattle.laws.specs.Running.{splitUp-entries}
@@ -73,11 +73,11 @@ module _ (s : Settings) (x : List Float) (t : Tree) (total : ℕ) (small : total
           ∙ (unfold alongPath withNodes entryWeight entryAt in refl)
 
       taken : (c : ℕ) → entryWeight (grown s (rowItem s x) t) c ≡ entryWeight t c + is c (taker (rowItem s x) t)
-      taken c = unfold grown grownAt placed settled taker in (ends c ∙ joined c)
+      taken c = unfold grown grownAt placed splitFrom taker in (ends c ∙ joined c)
         where
-          ends : (c : ℕ) → entryWeight (settled s L (absorbedOrBegun (rowItem s x) L (hit) U)) c ≡ entryWeight (absorbedOrBegun (rowItem s x) L (hit) U) c
+          ends : (c : ℕ) → entryWeight (splitFrom s L (absorbedOrBegun (rowItem s x) L (hit) U)) c ≡ entryWeight (absorbedOrBegun (rowItem s x) L (hit) U) c
           ends c =
-              unfold settled entryWeight entryAt in ap (λ l. rowsIn (getD l c blank)) (splitUp-entries s (length ((absorbedOrBegun (rowItem s x) L (hit) U) .nodes)) L
+              unfold splitFrom entryWeight entryAt in ap (λ l. rowCount (getD l c blank)) (splitUp-entries s (length ((absorbedOrBegun (rowItem s x) L (hit) U) .nodes)) L
               (absorbedOrBegun (rowItem s x) L (hit) U))
 
   -- the row was pushed into its taker, and nothing else of the entries changed
@@ -85,7 +85,7 @@ module _ (s : Settings) (x : List Float) (t : Tree) (total : ℕ) (small : total
       → (grown s (rowItem s x) t) .entries ≡ cond (eqb (taker (rowItem s x) t) (length (t .entries))) (snoc (t .entries) (push s x blank))
       (changeAt (push s x) (taker (rowItem s x) t) (t .entries))
   grown-took k =
-      unfold grown grownAt placed settled taker in (splitUp-entries s (length ((absorbedOrBegun (rowItem s x) L (hit) U) .nodes)) L (absorbedOrBegun (rowItem s x) L (hit) U)
+      unfold grown grownAt placed splitFrom taker in (splitUp-entries s (length ((absorbedOrBegun (rowItem s x) L (hit) U) .nodes)) L (absorbedOrBegun (rowItem s x) L (hit) U)
       ∙ joined (hit) (hit-in k))
     where
       at-end : (n : ℕ) (p q : List Summary) → cond (eqb n n) p q ≡ p

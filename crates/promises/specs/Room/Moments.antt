@@ -11,9 +11,9 @@ use Rattle.feature.specs.declared.Summary.{Summary}
 use Rattle.head.specs.declared.Settings.{Settings}
 use Rattle.head.specs.Limits.{Sized}
 use Rattle.head.specs.Sizes.{entryCap}
-use Rattle.rules.specs.Tree.{Tree, nodeAt, entryAt, blankNode, distTo, distBetween, withNodes, rowsIn}
+use Rattle.rules.specs.Tree.{Tree, nodeAt, entryAt, blankNode, distTo, distBetween, withNodes, rowCount}
 use Rattle.rules.specs.Descent.{leafFor, alongPath}
-use Rattle.rules.specs.Split.{settled}
+use Rattle.rules.specs.Split.{splitFrom}
 use Rattle.rules.specs.Insert.{grownAt, grown, rowItem, Item, summaryItem, placed}
 use Rattle.rules.specs.Reinsert.{collected, cleared, replaced, replacedAll, reinserted}
 use Rattle.rules.specs.Check.{totalOf}
@@ -39,8 +39,8 @@ pub data Entering (s : Settings) (i : Item) (b : Bool) (l : ℕ) (t : Tree) : Tr
   pushed : Entering s i b l t (alongPath (i .taken) l t)
   splits : {u : Tree} → Splitting s l (itemPlaced i b l t) u → Entering s i b l t u
 
-entering-end : (s : Settings) (i : Item) (b : Bool) (l : ℕ) (t : Tree) → Entering s i b l t (settled s l (itemPlaced i b l t))
-unfolding settled
+entering-end : (s : Settings) (i : Item) (b : Bool) (l : ℕ) (t : Tree) → Entering s i b l t (splitFrom s l (itemPlaced i b l t))
+unfolding splitFrom
 entering-end s i b l t = splits (splitting-end s (length ((itemPlaced i b l t) .nodes)) l (itemPlaced i b l t))
 
 pub holding-roomy : (s : Settings) (t : Tree) (rows : ℕ) → Holding s t rows → length (t .entries) ≤ s .«max_leaves» + 1 → Roomy s t
@@ -100,7 +100,7 @@ replacing-roomy {s} c (e ∷ es) t total k r b h (entry w) =
     (omega arith) w
 replacing-roomy {s} c (e ∷ es) t total k r b h (next w) =
     let n : length ((replaced s e t) .entries) ≡ suc (length (t .entries)) = ap (λ l. length l) (place-entries s e t) ∙ snoc-length (t .entries) e in
-    replacing-roomy c es (replaced s e t) (total + rowsIn e) (inr (replaced-holds s e t total c k (r .0) (r .1) (omega arith))) (r .2) (omega arith)
+    replacing-roomy c es (replaced s e t) (total + rowCount e) (inr (replaced-holds s e t total c k (r .0) (r .1) (omega arith))) (r .2) (omega arith)
     (omega arith) w
 
 -- ---- the whole of it, of the tree t

@@ -14,7 +14,7 @@ use Rattle.head.specs.declared.Settings.{Settings}
 use Rattle.head.specs.Limits.{Sized}
 use Rattle.rules.specs.declared.Verdict.the-variants.{Passes}
 use Rattle.rules.specs.Lists.{occurs, upFrom}
-use Rattle.rules.specs.Tree.{Tree, entryAt, rowsIn}
+use Rattle.rules.specs.Tree.{Tree, entryAt, rowCount}
 use Rattle.rules.specs.Refit.{refitted}
 use Rattle.rules.specs.Check.{checked, totalOf, Binary64}
 use Rattle.counting.specs.Count.{is-same, is-other, is, same?}
@@ -45,27 +45,27 @@ none-before : (i : ℕ) (es : List Summary) (c : ℕ) → c < i → occurs c (st
 unfolding standing
 none-before i [] c h = unfold occurs in refl
 none-before i (e ∷ es) c h =
-    let p = occurs-append c (replicate (rowsIn e) i) (standing (suc i) es) in
-    let q = occurs-others c (rowsIn e) i (λ z. clash z) in
+    let p = occurs-append c (replicate (rowCount e) i) (standing (suc i) es) in
+    let q = occurs-others c (rowCount e) i (λ z. clash z) in
     let r = none-before (suc i) es c (omega arith) in
     omega arith
   where
     clash : c ≡ i → ⊥
     clash z = omega arith
 
-stands : (i : ℕ) (es : List Summary) (k : ℕ) → occurs (k + i) (standing i es) ≡ rowsIn (getD es k blank)
+stands : (i : ℕ) (es : List Summary) (k : ℕ) → occurs (k + i) (standing i es) ≡ rowCount (getD es k blank)
 unfolding standing
 stands i [] k = let z : occurs (k + i) [] ≡ 0 = unfold occurs in refl in z ∙ sym (exact-count blank 0 blank-exact)
 stands i (e ∷ es) zero =
-    let p = occurs-append (0 + i) (replicate (rowsIn e) i) (standing (suc i) es) in
-    let q = occurs-replicate (0 + i) (rowsIn e) i (omega arith) in
+    let p = occurs-append (0 + i) (replicate (rowCount e) i) (standing (suc i) es) in
+    let q = occurs-replicate (0 + i) (rowCount e) i (omega arith) in
     let r = none-before (suc i) es (0 + i) (omega arith) in
     omega arith
 stands i (e ∷ es) (suc k) =
-    let p = occurs-append (suc k + i) (replicate (rowsIn e) i) (standing (suc i) es) in
-    let q = occurs-others (suc k + i) (rowsIn e) i (λ z. clash z) in
+    let p = occurs-append (suc k + i) (replicate (rowCount e) i) (standing (suc i) es) in
+    let q = occurs-others (suc k + i) (rowCount e) i (λ z. clash z) in
     let n : k + suc i ≡ suc k + i = omega arith in
-    let r : occurs (suc k + i) (standing (suc i) es) ≡ rowsIn (getD es k blank) = ap (λ z. occurs z (standing (suc i) es)) (sym n) ∙ stands (suc i) es k in
+    let r : occurs (suc k + i) (standing (suc i) es) ≡ rowCount (getD es k blank) = ap (λ z. occurs z (standing (suc i) es)) (sym n) ∙ stands (suc i) es k in
     omega arith
   where
     clash : suc k + i ≡ i → ⊥
@@ -90,9 +90,9 @@ pub origins-length : (es : List Summary) → length (originsOf es) ≡ totalOf e
 unfolding originsOf totalOf
 origins-length [] = refl
 origins-length (e ∷ es) =
-    let a = length-append (map (behind e) (upFrom (rowsIn e) 0)) (originsOf es) in
-    let b = length-map (upFrom (rowsIn e) 0) (behind e) in
-    let c = up-length (rowsIn e) 0 in
+    let a = length-append (map (behind e) (upFrom (rowCount e) 0)) (originsOf es) in
+    let b = length-map (upFrom (rowCount e) 0) (behind e) in
+    let c = up-length (rowCount e) 0 in
     let d = origins-length es in
     omega arith
 
@@ -180,38 +180,38 @@ block-after (d ∷ b) i n rest f h (suc j) =
 
 -- entry k of es, whose numbers begin at i, after rows zs of other entries
 entry-made : (s : Settings) (zs : List Origin) (b : List ℕ) (i : ℕ) (es : List Summary) → length b ≡ length zs → ((d : ℕ) → i ≤ d → occurs d b ≡ 0) → (k : ℕ)
-    → 0 < rowsIn (getD es k blank) → Made s (zs ++ originsOf es) (getD es k blank) (owns (b ++ standing i es) (k + i))
+    → 0 < rowCount (getD es k blank) → Made s (zs ++ originsOf es) (getD es k blank) (owns (b ++ standing i es) (k + i))
 unfolding originsOf standing
 entry-made s zs b i [] len off k pos = let z = exact-count blank 0 blank-exact in absurd (omega arith)
 entry-made s zs b i (e ∷ es) len off zero pos =
     let n : i ≡ 0 + i = omega arith in
-    subst (λ c. Made s (zs ++ (map (behind e) (upFrom (rowsIn e) 0) ++ originsOf es)) e (owns (b ++ (replicate (rowsIn e) i ++ standing (suc i) es)) c)) n
-    (alike (lent e (length zs) pos (λ k h. behind-at zs (originsOf es) e (rowsIn e) k h))
-    (λ j. block-after b i (rowsIn e) (standing (suc i) es) (off i (omega arith)) (none-before (suc i) es i (omega arith)) j
-    ∙ ap (λ n. occurs j (upFrom (rowsIn e) n)) len))
+    subst (λ c. Made s (zs ++ (map (behind e) (upFrom (rowCount e) 0) ++ originsOf es)) e (owns (b ++ (replicate (rowCount e) i ++ standing (suc i) es)) c)) n
+    (alike (lent e (length zs) pos (λ k h. behind-at zs (originsOf es) e (rowCount e) k h))
+    (λ j. block-after b i (rowCount e) (standing (suc i) es) (off i (omega arith)) (none-before (suc i) es i (omega arith)) j
+    ∙ ap (λ n. occurs j (upFrom (rowCount e) n)) len))
 entry-made s zs b i (e ∷ es) len off (suc k) pos =
     let n : k + suc i ≡ suc k + i = omega arith in
-    subst (λ ys. Made s ys (getD es k blank) (owns (b ++ (replicate (rowsIn e) i ++ standing (suc i) es)) (suc k + i)))
-    (append-assoc zs (map (behind e) (upFrom (rowsIn e) 0)) (originsOf es))
-    (subst (λ a. Made s ((zs ++ map (behind e) (upFrom (rowsIn e) 0)) ++ originsOf es) (getD es k blank) (owns a (suc k + i)))
-    (append-assoc b (replicate (rowsIn e) i) (standing (suc i) es))
-    (subst (λ c. Made s ((zs ++ map (behind e) (upFrom (rowsIn e) 0)) ++ originsOf es) (getD es k blank) (owns ((b ++ replicate (rowsIn e) i) ++ standing (suc i) es) c)) n
-    (entry-made s (zs ++ map (behind e) (upFrom (rowsIn e) 0)) (b ++ replicate (rowsIn e) i) (suc i) es longer others k pos)))
+    subst (λ ys. Made s ys (getD es k blank) (owns (b ++ (replicate (rowCount e) i ++ standing (suc i) es)) (suc k + i)))
+    (append-assoc zs (map (behind e) (upFrom (rowCount e) 0)) (originsOf es))
+    (subst (λ a. Made s ((zs ++ map (behind e) (upFrom (rowCount e) 0)) ++ originsOf es) (getD es k blank) (owns a (suc k + i)))
+    (append-assoc b (replicate (rowCount e) i) (standing (suc i) es))
+    (subst (λ c. Made s ((zs ++ map (behind e) (upFrom (rowCount e) 0)) ++ originsOf es) (getD es k blank) (owns ((b ++ replicate (rowCount e) i) ++ standing (suc i) es) c)) n
+    (entry-made s (zs ++ map (behind e) (upFrom (rowCount e) 0)) (b ++ replicate (rowCount e) i) (suc i) es longer others k pos)))
   where
-    longer : length (b ++ replicate (rowsIn e) i) ≡ length (zs ++ map (behind e) (upFrom (rowsIn e) 0))
+    longer : length (b ++ replicate (rowCount e) i) ≡ length (zs ++ map (behind e) (upFrom (rowCount e) 0))
     longer =
-        let a = length-append b (replicate (rowsIn e) i) in
-        let c = length-replicate (rowsIn e) i in
-        let d = length-append zs (map (behind e) (upFrom (rowsIn e) 0)) in
-        let f = length-map (upFrom (rowsIn e) 0) (behind e) in
-        let g = up-length (rowsIn e) 0 in
+        let a = length-append b (replicate (rowCount e) i) in
+        let c = length-replicate (rowCount e) i in
+        let d = length-append zs (map (behind e) (upFrom (rowCount e) 0)) in
+        let f = length-map (upFrom (rowCount e) 0) (behind e) in
+        let g = up-length (rowCount e) 0 in
         omega arith
 
-    others : (d : ℕ) → suc i ≤ d → occurs d (b ++ replicate (rowsIn e) i) ≡ 0
+    others : (d : ℕ) → suc i ≤ d → occurs d (b ++ replicate (rowCount e) i) ≡ 0
     others d h =
-        let a = occurs-append d b (replicate (rowsIn e) i) in
+        let a = occurs-append d b (replicate (rowCount e) i) in
         let c = off d (omega arith) in
-        let f = occurs-others d (rowsIn e) i (λ z. clash z) in
+        let f = occurs-others d (rowCount e) i (λ z. clash z) in
         omega arith
       where
         clash : d ≡ i → ⊥

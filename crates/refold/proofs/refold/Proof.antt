@@ -12,7 +12,7 @@ use Rattle.rules.specs.Slices.{treeOf}
 use Rattle.rules.specs.Refold.{preorder, refoldAll, refolded}
 use Rattle.stretch.specs.Blocks.{a-parent, no-parent}
 use Rattle.arena.specs.Trees.{count-nodes}
-use Rattle.listed.specs.Framed.{root-in}
+use Rattle.bounds.specs.Framed.{root-in}
 use Rattle.refold.specs.Walk.{lastUnder, Backward, walk-back}
 use Rattle.refold.specs.Refolding.{list-filled, same-list, same-leaf, back-in, back-some, back-top, Next, back-next, back-all, order-few}
 use Rattle.refold.proofs.refold.Statement.{statement}

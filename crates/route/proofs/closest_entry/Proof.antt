@@ -7,7 +7,7 @@ use borrow.Author.Needs.{needs}
 use lib.ListN.{length}
 use Rattle.rules.specs.Descent.{closest}
 use Rattle.arena.specs.Trees.{AnyLinks}
-use Rattle.listed.specs.Sure.{entry-listed}
+use Rattle.bounds.specs.Sure.{entry-listed}
 use Rattle.descent.specs.Searched.{entryDistance}
 use Rattle.descent.specs.Nearest.{nearestFrom, nearest-start, nearest-taken, nearest-left, nearest-end}
 use Rattle.route.proofs.closest_entry.Statement.{statement}

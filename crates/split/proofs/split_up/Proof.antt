@@ -6,7 +6,7 @@ use native.Mathlib.Omega.{arith}
 use borrow.Author.Needs.{needs}
 use lib.ListN.{length}
 use Rattle.rules.specs.Slices.{treeOf}
-use Rattle.rules.specs.Split.{fitting, splitUp, settled}
+use Rattle.rules.specs.Split.{fitting, splitUp, splitFrom}
 use Rattle.rules.specs.Tree.{Tree}
 use Rattle.arena.specs.Trees.{Floats, Links, caps-small, count-nodes}
 use Rattle.split.specs.Rising.{Rising, Step, step}
@@ -18,7 +18,7 @@ use Rattle.split.proofs.split_up.Tie as tie
 abbrev Inv-loop : tie.InvT-loop
 Inv-loop s floats₀ links₀ i m₀ at₀ left₀ floats links m at left =
     (length floats ≡ length floats₀) × (length links ≡ length links₀) × Floats s m (length floats) × Links s m (length links)
-    × Rising s left m at (treeOf s m floats links) × (splitUp s left at (treeOf s m floats links) ≡ settled s i (treeOf s m₀ floats₀ links₀))
+    × Rising s left m at (treeOf s m floats links) × (splitUp s left at (treeOf s m floats links) ≡ splitFrom s i (treeOf s m₀ floats₀ links₀))
 
 abbrev μ-loop : tie.MeasureT-loop
 μ-loop s floats₀ links₀ i m₀ at₀ left₀ floats links m at left = left

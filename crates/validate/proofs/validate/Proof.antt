@@ -10,7 +10,7 @@ use Rattle.arena.specs.Trees.{Floats, Links}
 use Prim.Native.Nat.{ℕ, suc, _≤_, _<_}
 use mathlib.Core.List.{[]}
 use Rattle.validate.specs.Examined.{tested, examined, checked-is, fails, holds}
-use Rattle.lists.specs.Lent.{Listed}
+use Rattle.lists.specs.Lent.{ListsFit}
 use Rattle.validate.specs.Granted.{sized-links, sized-floats, sized-few, rooted-in, lent-binary64}
 use Rattle.validate.proofs.validate.Statement.{statement}
 use Rattle.validate.proofs.validate.Tie as tie
@@ -108,7 +108,7 @@ root-in c =
     rooted-in (start .args .s) (start .args .n) (start .args .floats .now) (start .args .links .now)
     (sym (c .before .rooted .ensures (start .args .floats .now)) ∙ not-false _ (c .if2 .left))
 
-listed : (c : tie.Else3) → Listed (start-3 c .args .s) (start-3 c .args .n) (start-3 c .args .links .now)
+listed : (c : tie.Else3) → ListsFit (start-3 c .args .s) (start-3 c .args .n) (start-3 c .args .links .now)
 listed c = λ fs. sym (c .before .lists-fit .ensures fs) ∙ not-false _ (c .if3 .left)
 
 returns : tie.Need-returns

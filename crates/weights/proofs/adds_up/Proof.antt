@@ -6,7 +6,7 @@ use Rattle.binary64.specs.Counts.{isCount}
 use Rattle.weights.specs.Adding.{addsUp}
 use Rattle.weights.specs.Weighable.{node-counts}
 use Rattle.weights.proofs.adds_up.Statement.{statement}
-use Rattle.rules.specs.Tree.{rowsIn}
+use Rattle.rules.specs.Tree.{rowCount}
 use Rattle.weights.proofs.adds_up.Tie as tie
 
 weight-requires : tie.Need-weight-requires
@@ -21,7 +21,7 @@ rows-of-requires c κs =
     (start .args .i) (start .pre .1)
 
 returns : tie.Need-returns
-unfolding addsUp rowsIn
+unfolding addsUp rowCount
 returns c =
     let start = c .before .before .before .before .before in
     let weight = c .before .before .weight in

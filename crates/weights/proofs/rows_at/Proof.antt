@@ -1,7 +1,7 @@
 -- `adding::rows_at` meets its contract: what the place names is there, and weighs a count.
 use Rattle.weights.specs.Weighable.{rowsAt, child-in, child-counts}
 use Rattle.weights.proofs.rows_at.Statement.{statement}
-use Rattle.rules.specs.Tree.{rowsIn}
+use Rattle.rules.specs.Tree.{rowCount}
 use Rattle.weights.proofs.rows_at.Tie as tie
 
 is-leaf-requires : tie.Need-is-leaf-requires
@@ -32,7 +32,7 @@ rows-of-requires c κs =
     (start .pre .1) (start .pre .2 (start .args .floats .now)))
 
 returns : tie.Need-returns
-unfolding rowsAt rowsIn
+unfolding rowsAt rowCount
 returns c =
     let start = c .before .before .before .before .before .before in
     let is-leaf = c .before .before .before .is-leaf in

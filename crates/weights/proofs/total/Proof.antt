@@ -7,7 +7,7 @@ use borrow.Author.Needs.{needs}
 use lib.Ieee.{toUnsigned}
 use Rattle.binary64.specs.Counts.{isCount}
 use Rattle.head.specs.Sizes.{entries-small}
-use Rattle.rules.specs.Tree.{entryAt, rowsIn}
+use Rattle.rules.specs.Tree.{entryAt, rowCount}
 use Rattle.counting.specs.Sums.{sumTo}
 use Rattle.arena.specs.Trees.{AnyLinks}
 use Rattle.lists.specs.Loops.{sum-none, sum-more, sum-end}
@@ -16,7 +16,7 @@ use Rattle.weights.proofs.total.Statement.{statement}
 use Rattle.weights.proofs.total.Tie as tie
 
 abbrev Inv-loop : tie.InvT-loop
-Inv-loop s n floats rows₀ e₀ rows e = (e ≤ n .entries) × (rows ≤ 9007199254740992 * e) × AnyLinks s n floats (λ t. rows ≡ sumTo (λ k. rowsIn (entryAt t k)) e)
+Inv-loop s n floats rows₀ e₀ rows e = (e ≤ n .entries) × (rows ≤ 9007199254740992 * e) × AnyLinks s n floats (λ t. rows ≡ sumTo (λ k. rowCount (entryAt t k)) e)
 
 abbrev μ-loop : tie.MeasureT-loop
 μ-loop s n floats rows₀ e₀ rows e = n .entries - e
@@ -42,7 +42,7 @@ add-rows c =
     let few = entries-small (start .args .s) (start .pre .0 .sized) in let in-cap = start .pre .0 .entries-in in let q = c .rows-of .ensures .1 in omega arith
 
 loop-again : tie.Need-loop-again Inv-loop μ-loop
-unfolding rowsIn
+unfolding rowCount
 loop-again c =
     let loop = c .before .before .before .before .loop in
     let q = c .rows-of .ensures .1 in (

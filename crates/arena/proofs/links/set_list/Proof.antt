@@ -3,7 +3,7 @@ use Prim.Native.Nat.{_+_, _*_, _≤_}
 use native.Mathlib.Omega.{arith}
 use borrow.Author.Needs.{needs}
 use lib.ListN.{length, take}
-use Rattle.rules.specs.Tree.{listing}
+use Rattle.rules.specs.Tree.{withList}
 use Rattle.arena.specs.Trees.{node-block}
 use Rattle.arena.specs.Writes.{node-relinked}
 use Rattle.arena.specs.Numbered.{block-fits, block-of, block-put}
@@ -34,10 +34,10 @@ returns c =
     let block-width = c .before .before .before .before .block-width in
     let start = c .before .before .before .before .before .before .before in
     let s = start .args .s in
-    λ fs. node-relinked s (start .args .n) fs (start .args .links .now) _ (listing (take (start .args .len) (start .args .list .now)))
+    λ fs. node-relinked s (start .args .n) fs (start .args .links .now) _ (withList (take (start .args .len) (start .args .list .now)))
     (start .args .i) (start .pre .1) (block-put s (start .args .links .now) (start .args .i) (block-width .result)
     (node-block (start .args .s) (start .args .n) _ (start .args .i) (start .pre .0) (start .pre .1)) (block-width .ensures)
-    (listing (take (start .args .len) (start .args .list .now))) (c .before .before .set-list .last .1 .1 .1 .0)
+    (withList (take (start .args .len) (start .args .list .now))) (c .before .before .set-list .last .1 .1 .1 .0)
     (c .before .before .set-list .kept .1 .1 .1 .0) (c .before .before .set-list .ensures))
 
 pub set-list-spec : {M : Type 1} → statement M

@@ -8,7 +8,7 @@ use lib.ListN.{length}
 use lib.Ieee.{div, ofBits}
 use Rattle.rules.specs.Descent.{searched}
 use Rattle.arena.specs.Trees.{AnyLinks}
-use Rattle.listed.specs.Sure.{entry-listed}
+use Rattle.bounds.specs.Sure.{entry-listed}
 use Rattle.descent.specs.Searched.{Inside, inside-entry, inside-nothing, entryDistance, searchedFrom}
 use Rattle.descent.specs.Searched.{search-start, search-taken, search-left, search-end}
 use Rattle.descent.proofs.leaf.nearest_in_leaf.Statement.{statement}

@@ -9,7 +9,7 @@ use Rattle.rules.specs.Slices.{treeOf}
 use Rattle.rules.specs.Descent.{alongPath}
 use Rattle.arena.specs.Trees.{count-nodes}
 use Rattle.descent.specs.Forms.{itemOf}
-use Rattle.listed.specs.Sure.{parent-there}
+use Rattle.bounds.specs.Sure.{parent-there}
 use Rattle.stretch.specs.Blocks.{no-parent, a-parent}
 use Rattle.descent.specs.Paths.{climbedFrom, up-start, up-on, up-top, up-end}
 use Rattle.descent.proofs.path.feed_path.Statement.{statement}

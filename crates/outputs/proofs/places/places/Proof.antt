@@ -3,7 +3,7 @@ use native.Mathlib.Nat.{mul-le-mul}
 use native.Mathlib.Omega.{arith}
 use borrow.Author.Needs.{needs}
 use Rattle.head.specs.Sizes.{nodes-small, slot-small}
-use Rattle.rules.specs.Calls.{listedBy}
+use Rattle.rules.specs.Calls.{shownBy}
 use Rattle.outputs.proofs.places.places.Statement.{statement}
 use Rattle.outputs.proofs.places.places.Tie as tie
 
@@ -19,7 +19,7 @@ mul-t6 c =
     rw (c .node-cap .ensures, c .before .slot-width .ensures, c .before .before .settings .ensures) (omega (arith, mul-le-mul (nodes-small _ z) (slot-small _ z)))
 
 returns : tie.Need-returns
-unfolding listedBy
+unfolding shownBy
 returns c = rw (c .slots .ensures, c .before .node-cap .ensures, c .before .before .slot-width .ensures, c .before .before .before .settings .ensures)
 
 pub places-spec : {M : Type 1} → statement M

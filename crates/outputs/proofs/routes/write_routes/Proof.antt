@@ -10,7 +10,7 @@ use Rattle.rules.specs.Lists.{rowsOf}
 use Rattle.rules.specs.Slices.{treeOf}
 use Rattle.arena.specs.Trees.{caps-small}
 use Rattle.stretch.specs.Stretches.{copiedTo, copied-turn}
-use Rattle.rows.specs.Rows.{row-in, row-wide}
+use Rattle.rows.specs.Rows.{row-there, row-wide}
 use Rattle.outputs.proofs.routes.write_routes.Statement.{statement}
 use Rattle.rules.specs.Route.{greedy}
 use Rattle.outputs.proofs.routes.write_routes.Tie as tie
@@ -27,7 +27,7 @@ loop-holds c = (omega arith, refl, refl)
 
 -- the row is there
 there : (c : tie.In-loop Inv-loop μ-loop) → (c .before .loop .k + 1) * c .before .before .before .before .before .before .args .s .dim ≤ length (c .before .before .before .before .before .before .args .rows .now)
-there c = row-in (c .before .before .before .before .before .before .args .s) (c .before .before .before .before .before .before .args .count) (c .before .loop .k) _ (c .loop-test .taken) (c .before .before .before .before .before .before .pre .0 .2)
+there c = row-there (c .before .before .before .before .before .before .args .s) (c .before .before .before .before .before .before .args .count) (c .before .loop .k) _ (c .loop-test .taken) (c .before .before .before .before .before .before .pre .0 .2)
 
 row-requires : tie.Need-row-requires Inv-loop μ-loop
 row-requires c κs = there c

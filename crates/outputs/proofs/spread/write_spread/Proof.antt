@@ -7,7 +7,7 @@ use borrow.Author.Needs.{needs}
 use lib.ListN.{length, drop, length-take, length-drop}
 use Rattle.outputs.specs.Spread.{spread-long}
 use Rattle.outputs.specs.Written.{pieceOf, piece-turn, pieces-all}
-use Rattle.rules.specs.Lists.{joined, table}
+use Rattle.rules.specs.Lists.{concat, table}
 use Rattle.rules.specs.Slices.{treeOf}
 use Rattle.rules.specs.Tree.{entryAt}
 use Rattle.arena.specs.Trees.{entry-shaped}
@@ -20,7 +20,7 @@ use Rattle.outputs.proofs.spread.write_spread.Tie as tie
 
 abbrev Inv-loop : tie.InvT-loop
 Inv-loop s n floats out₀ i₀ out i = (i ≤ n .entries) × (length out ≡ length out₀)
-    × (out ≡ joined (table (pieceOf s n floats (spreadOf (s .feature) (s .dim)) (s .dim)) i) ++ drop (i * s .dim) out₀)
+    × (out ≡ concat (table (pieceOf s n floats (spreadOf (s .feature) (s .dim)) (s .dim)) i) ++ drop (i * s .dim) out₀)
 
 abbrev μ-loop : tie.MeasureT-loop
 μ-loop s n floats out₀ i₀ out i = n .entries - i
@@ -38,7 +38,7 @@ end : (c : tie.Then1 Inv-loop μ-loop) → c .before .before .loop .i * c .befor
 end c = rw (c .before .before .loop .inv .1) (room (c .before .before .loop .i) (c .before .before .before .before .before .args .n .entries) (c .before .before .before .before .before .args .s .dim) (length (c .before .before .before .before .before .args .out .now)) (c .if1 .taken) (c .before .before .before .before .before .pre .1))
 
 loop-holds : tie.Need-loop-holds Inv-loop μ-loop
-unfolding table joined
+unfolding table concat
 loop-holds c = (omega arith, refl, ap (λ k. drop k (c .before .before .args .out .now)) (sym (zero-mul (c .before .before .args .s .dim))))
 
 mul-at : tie.Need-mul-at Inv-loop μ-loop

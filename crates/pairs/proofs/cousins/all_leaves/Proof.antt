@@ -6,7 +6,7 @@ use borrow.Author.Needs.{needs}
 use lib.ListN.{length, drop}
 use Rattle.rules.specs.Pairs.{allLeaves}
 use Rattle.arena.specs.Trees.{AnyFloats}
-use Rattle.listed.specs.Sure.{node-listed}
+use Rattle.bounds.specs.Sure.{node-listed}
 use Rattle.pairs.specs.Groups.{leaves-turn, leaves-stop, leaves-end}
 use Rattle.pairs.proofs.cousins.all_leaves.Statement.{statement}
 use Rattle.pairs.proofs.cousins.all_leaves.Tie as tie

@@ -10,7 +10,7 @@ use Rattle.rules.specs.Tree.{nodeAt}
 use Rattle.rules.specs.Slices.{treeOf}
 use Rattle.rules.specs.Pairs.{costOf, partner, beneath}
 use Rattle.arena.specs.Trees.{ChildrenIn}
-use Rattle.listed.specs.Sure.{node-listed}
+use Rattle.bounds.specs.Sure.{node-listed}
 use Rattle.pairs.specs.Partners.{partnerOf, Inside, partner-append}
 use Rattle.pairs.specs.Groups.{beneath-turn, beneath-end}
 use Rattle.pairs.proofs.cousins.cheapest_beneath.Statement.{statement}

@@ -9,7 +9,7 @@ use mir.Val.{Fits}
 use mir.Syntax.{w64}
 use Rattle.rules.specs.Slices.{treeOf}
 use Rattle.rules.specs.Pairs.{partners, beneath}
-use Rattle.listed.specs.Sure.{entry-listed}
+use Rattle.bounds.specs.Sure.{entry-listed}
 use Rattle.scratch.specs.Stored.{pairsIn, among}
 use Rattle.pairs.specs.Partners.{partnerOf, inside-more}
 use Rattle.pairs.specs.Groups.{partners-turn, partners-end}

@@ -13,7 +13,7 @@ use Rattle.rules.specs.Tree.{Tree, nodeAt}
 use Rattle.rules.specs.Slices.{treeOf}
 use Rattle.rules.specs.Pairs.{partners, beneath}
 use Rattle.arena.specs.Trees.{ChildrenIn}
-use Rattle.listed.specs.Sure.{node-listed}
+use Rattle.bounds.specs.Sure.{node-listed}
 use Rattle.scratch.specs.Stored.{pairsIn}
 use Rattle.pairs.specs.Groups.{beneath-turn, leaf-turn, leaves-done}
 use Rattle.pairs.proofs.cousins.push_leaves.Statement.{statement}

@@ -10,7 +10,7 @@ use Rattle.rules.specs.Tree.{Tree, nodeAt}
 use Rattle.rules.specs.Slices.{treeOf}
 use Rattle.rules.specs.Pairs.{partners}
 use Rattle.arena.specs.Trees.{ChildrenIn}
-use Rattle.listed.specs.Framed.{frame-children}
+use Rattle.bounds.specs.Framed.{frame-children}
 use Rattle.scratch.specs.Stored.{Room, pairsIn}
 use Rattle.pairs.specs.Groups.{siblings-inner, siblings-few, siblings-some}
 use Rattle.pairs.specs.Rooms.{listed-leaf}

@@ -10,8 +10,8 @@ use Rattle.rules.specs.Tree.{child}
 use Rattle.rules.specs.Slices.{treeOf}
 use Rattle.rules.specs.Refold.{foldBalanced}
 use Rattle.arena.specs.Trees.{ChildrenIn, count-nodes, slot-shaped}
-use Rattle.listed.specs.Framed.{frame-children}
-use Rattle.listed.specs.Standing.{list-few}
+use Rattle.bounds.specs.Framed.{frame-children}
+use Rattle.bounds.specs.Standing.{list-few}
 use Rattle.refold.specs.Folds.{list-room, first-slot}
 use Rattle.refold.specs.Refolding.{one-is}
 use Rattle.refold.proofs.fold.refold_node.Statement.{statement}

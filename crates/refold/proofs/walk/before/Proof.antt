@@ -11,8 +11,8 @@ use Rattle.rules.specs.Lists.{occurs}
 use Rattle.rules.specs.Tree.{Tree, nodeAt}
 use Rattle.rules.specs.Slices.{treeOf}
 use Rattle.arena.specs.Trees.{ChildrenIn, count-nodes}
-use Rattle.listed.specs.Sure.{node-listed}
-use Rattle.listed.specs.Framed.{frame-children}
+use Rattle.bounds.specs.Sure.{node-listed}
+use Rattle.bounds.specs.Framed.{frame-children}
 use Rattle.refold.specs.Walk.{lastUnder}
 use Rattle.refold.specs.Links.{listed-once, one-place, before-first, before-later}
 use Rattle.refold.proofs.walk.before.Statement.{statement}

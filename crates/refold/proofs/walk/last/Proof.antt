@@ -10,8 +10,8 @@ use lib.Ieee.{Float}
 use Rattle.rules.specs.Tree.{nodeAt}
 use Rattle.rules.specs.Slices.{treeOf}
 use Rattle.arena.specs.Trees.{AnyFloats, ChildrenIn, count-nodes}
-use Rattle.listed.specs.Sure.{node-listed}
-use Rattle.listed.specs.Framed.{frame-children}
+use Rattle.bounds.specs.Sure.{node-listed}
+use Rattle.bounds.specs.Framed.{frame-children}
 use Rattle.refold.specs.Walk.{lastUnder}
 use Rattle.refold.specs.Links.{last-here, last-none, last-on}
 use Rattle.refold.proofs.walk.last.Statement.{statement}

@@ -8,7 +8,7 @@ use Rattle.refusals.specs.Granted.{create-grants, change-parts}
 use Rattle.refusals.specs.Lending.{lending}
 use Rattle.head.specs.Heads.{settingsOf}
 use Rattle.rules.specs.Calls.{answerOf, roomRefusal, createRefusals, Lent, treeRefusal, lentTree}
-use Rattle.rules.specs.CallLaws.{Roomy}
+use Rattle.rules.specs.CallLaws.{Granted}
 use Rattle.head.specs.declared.refusal.Refusal.{Refusal}
 use Rattle.head.specs.declared.refusal.Answer.the-variants.{Accepted}
 use Rattle.head.specs.Sizes.{scratchFloatsNeeded, scratchLinksNeeded}
@@ -35,7 +35,7 @@ start c = (c .before .before .before .before .before .before .before)
 accepts : (c : tie.After-enum-told) → answerOf (createRefusals (start c .args .h) (start c .args .floats .now) (start c .args .links .now)) ≡ Accepted
 accepts c = sym (c .before .before .create .ensures) ∙ c .enum-told .given .1
 
-roomy : (c : tie.After-enum-told) → Roomy (start c .args .h) (start c .args .floats .now) (start c .args .links .now)
+roomy : (c : tie.After-enum-told) → Granted (start c .args .h) (start c .args .floats .now) (start c .args .links .now)
 roomy c = create-grants _ _ _ (accepts c)
 
 returns : tie.Need-returns

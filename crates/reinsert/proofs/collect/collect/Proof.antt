@@ -11,7 +11,7 @@ use Rattle.head.specs.Sizes.{entryCap}
 use Rattle.rules.specs.Tree.{Tree, nodeAt, entryAt}
 use Rattle.rules.specs.Slices.{treeOf}
 use Rattle.arena.specs.Trees.{ChildrenIn, count-nodes, caps-small}
-use Rattle.listed.specs.Framed.{root-in, frame-children}
+use Rattle.bounds.specs.Framed.{root-in, frame-children}
 use Rattle.scratch.specs.Slots.{slotsIn, length-slots, no-slots}
 use Rattle.reinsert.specs.Waiting.{waiting, length-waiting, none-wait, waiting-top, waiting-put}
 use Rattle.reinsert.specs.Collect.{Collecting, collect-start, collect-none, collect-end, waiting-few, top-there}

@@ -11,7 +11,7 @@ use Rattle.head.specs.Sizes.{entryCap}
 use Rattle.rules.specs.Slices.{treeOf}
 use Rattle.rules.specs.Tree.{entryAt}
 use Rattle.arena.specs.Trees.{AnyLinks, caps-small, entry-shaped}
-use Rattle.listed.specs.Sure.{entry-listed}
+use Rattle.bounds.specs.Sure.{entry-listed}
 use Rattle.scratch.specs.Slots.{slotsIn, slot-there, copy-start, copy-turn, copy-end}
 use Rattle.reinsert.proofs.collect.copy_entries.Statement.{statement}
 use Rattle.reinsert.proofs.collect.copy_entries.Tie as tie

@@ -2,7 +2,7 @@
 use mathlib.Core.Path.{ap, _∙_}
 use borrow.Author.Needs.{needs}
 use lib.ListN.{take}
-use Rattle.rules.specs.Tree.{listing}
+use Rattle.rules.specs.Tree.{withList}
 use Rattle.arena.specs.Trees.{onNode}
 use Rattle.split.specs.Parts.{refill-is}
 use Rattle.split.proofs.part.refill.Statement.{statement}
@@ -14,7 +14,7 @@ returns c =
     let put = c .before .before .before .before .before .before .put in
     let a = c .before .before .before .before .before .before .before .before .before .before .before .args in
     let ks = take (a .len) (a .list .now) in
-    set-list .ensures _ ∙ ap (onNode (listing ks) (a .i)) (put .ensures (a .links .now)) ∙ refill-is (a .c) ks (a .i) _
+    set-list .ensures _ ∙ ap (onNode (withList ks) (a .i)) (put .ensures (a .links .now)) ∙ refill-is (a .c) ks (a .i) _
 
 pub refill-spec : {M : Type 1} → statement M
 refill-spec =

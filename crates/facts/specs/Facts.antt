@@ -25,11 +25,11 @@ use Rattle.rules.specs.Check.{linked}
 use Rattle.rules.specs.Computes.{computes}
 use Rattle.promises.specs.Demand.{called, originsOf, standing, originAt, takerOf, taker, ownersIn, ownersAll, ownersRefit, wayUp, pathUp}
 use Rattle.laws.specs.Moves.{mergedTo, reinsertedTo, rebalancedTo, refitOwners}
-use Rattle.bites.specs.Told.{told}
-use Rattle.bites.specs.Formed.{alone, formed}
-use Rattle.bites.specs.Spared.{sameNumbers, kept, spared}
-use Rattle.bites.specs.Fitting.{roomy, trusted}
-use Rattle.bites.specs.Steps.{batch, lending, owning, renumbering, refittingOwners, joining, growing, splitting, merging, rebuilding, reinserting, pouring, checking}
+use Rattle.facts.specs.Told.{told}
+use Rattle.facts.specs.Formed.{alone, formed}
+use Rattle.facts.specs.Spared.{sameNumbers, kept, spared}
+use Rattle.facts.specs.Fitting.{roomy, trusted}
+use Rattle.facts.specs.Steps.{batch, lending, owning, renumbering, refittingOwners, joining, growing, splitting, merging, rebuilding, reinserting, pouring, checking}
 use Rattle.counting.specs.Places.{placeIn}
 use Rattle.rules.specs.Route.{greedy}
 use Rattle.rules.specs.Rows.{insertedAll}

@@ -12,13 +12,13 @@ use Rattle.feature.specs.Summaries.{blank}
 use Rattle.feature.specs.Weights.{blank-weight, pushed-weight, merged-none, merged-copy, zero-low}
 use Rattle.head.specs.declared.Settings.{Settings}
 use Rattle.rules.specs.Lists.{every, upFrom, occurs}
-use Rattle.rules.specs.Tree.{Tree, push, merge, entryAt, rowsIn}
+use Rattle.rules.specs.Tree.{Tree, push, merge, entryAt, rowCount}
 use Rattle.rules.specs.Histories.{summarySeen}
 use Rattle.counting.specs.Count.{is, is-same, is-other, is-eq, same?, lt?, eq-test, is-le}
 use Rattle.counting.specs.Sums.{occurs-cons, occurs-here}
 use Rattle.promises.specs.Demand.{Origin, called, originAt, owns, Made, empty, taking, lent, joining, alike, behind}
 use Rattle.promises.specs.Ownership.Made.{AllMade, owns-none}
-use Rattle.bites.specs.Spared.{sameNumbers, numbers-same, every-below}
+use Rattle.facts.specs.Spared.{sameNumbers, numbers-same, every-below}
 use Rattle.counting.specs.Places.{get-occurs}
 use Rattle.feature.specs.declared.Summary.{Summary}
 use Rattle.binary64.specs.Whole.{most, whole}
@@ -44,7 +44,7 @@ up-here (suc n) i h = occurs-here i (upFrom n (suc i))
 unused : {s : Settings} {ys : List Origin} {e : Summary} {p : ℕ → ℕ} → Made s ys e p → ((k : ℕ) → p k ≡ 0) → e ≡ blank
 unused empty h = refl
 unused (taking i x o m) h = let q = h i in let r = is-same i i refl in absurd (omega arith)
-unused (lent e i pos at) h = let q = h i in let r = up-here (rowsIn e) i pos in absurd (omega arith)
+unused (lent e i pos at) h = let q = h i in let r = up-here (rowCount e) i pos in absurd (omega arith)
 unused {s} (joining {e} {f} m n) h =
     ap (λ x. merge s x f) (unused m (λ k. let q = h k in omega arith))
     ∙ ap (λ x. merge s blank x) (unused n (λ k. let q = h k in omega arith)) ∙ merged-none (s .feature) (s .dim) blank blank blank-weight
@@ -77,7 +77,7 @@ module _ {s : Settings} {ys : List Origin} (n : Counted ys) (i : ℕ) (inn : i <
       ∙ sym (ap (alone s) (ap (originAt ys) (sym same) ∙ o))
   single (lent e j pos at) h =
       let q = h j in
-      let r = up-here (rowsIn e) j pos in
+      let r = up-here (rowCount e) j pos in
       let same : j + 0 ≡ i = (let z : j + 0 ≡ j = omega arith in z) ∙ is-eq j i (let b = is-le j i in omega arith) in
       sym (ap (alone s) (ap (originAt ys) (sym same) ∙ at 0 pos))
   single (joining {e} {f} {p} {q} m w) h = go (lt? 0 (p i)) (λ f. single m f) (λ f. single w f)

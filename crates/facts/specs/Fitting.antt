@@ -16,7 +16,7 @@ use Rattle.rules.specs.Tree.{Tree, nodeAt, cap}
 use Rattle.rules.specs.Check.{onceEach, leafLists, checked}
 use Rattle.laws.specs.Check.Both.{passing-linked}
 use Rattle.laws.specs.Room.Nodes.{Roomy}
-use Rattle.bites.specs.Spared.{every-below}
+use Rattle.facts.specs.Spared.{every-below}
 
 -- at most N nodes and M + 1 entries, and no list over its cap by more than one
 unfoldable pub roomy : Settings → Tree → Bool

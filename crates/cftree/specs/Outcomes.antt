@@ -12,8 +12,8 @@ use Rattle.rules.specs.Calls.{Lent, Left, Made, answerOf, settle, madeBy}
 use Rattle.refusals.specs.Lending.{lending}
 use Rattle.rules.specs.RefusalLaws.{accepted-none}
 use Rattle.rules.specs.CallLaws.{refused-unchanged}
-use Rattle.fronts.specs.Whole as Front
-use Rattle.work.specs.Whole as Work
+use Rattle.fronts.specs.Whole.{headMade}
+use Rattle.work.specs.Whole.{headLeft}
 use Rattle.cftree.specs.declared.Outcome.{Outcome}
 
 abbrev pub made : Outcome → List Float → List ℕ → Made
@@ -34,7 +34,7 @@ module _ (h : Head) (fs : List Float) (ls : List ℕ) (rs : List Refusal) {a : A
       go [] e = let z : _≡_ {A = ℕ} 0 1 = cc in absurd (omega arith)
       go (x ∷ rs) e = rw e
 
-  pub made-done : a ≡ Accepted → {g : Head} {gs : List Float} {ks : List ℕ} → Front.made g gs ks ≡ madeBy [] h fs ls
+  pub made-done : a ≡ Accepted → {g : Head} {gs : List Float} {ks : List ℕ} → headMade g gs ks ≡ madeBy [] h fs ls
       → made (record { head = g; answer = a }) gs ks ≡ madeBy rs h fs ls
   made-done q d = rw (accepted-none rs (sym e ∙ q), q) d
 
@@ -45,7 +45,7 @@ module _ (h : Head) (l : Lent) (rs : List Refusal) {a : Answer} (e : a ≡ answe
       → left (record { head = h; answer = a }) (l .floats) (l .links) (l .scratchFloats) (l .scratchLinks) ≡ settle rs h l done
   refused-as-lent {r} q = rw q (sym (refused-unchanged h l done rs r (sym e ∙ q)))
 
-  pub done-as-ruled : a ≡ Accepted → {g : Head} {gs : List Float} {ks : List ℕ} {ss : List Float} {ns : List ℕ} → Work.left g gs ks ss ns ≡ done
+  pub done-as-ruled : a ≡ Accepted → {g : Head} {gs : List Float} {ks : List ℕ} {ss : List Float} {ns : List ℕ} → headLeft g gs ks ss ns ≡ done
       → left (record { head = g; answer = a }) gs ks ss ns ≡ settle rs h l done
   unfolding settle
   done-as-ruled q d = rw (accepted-none rs (sym e ∙ q), q) d

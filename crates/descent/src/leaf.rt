@@ -13,13 +13,7 @@ use head::Settings;
 use rules::Nearest;
 
 // The entry of a list that is nearest to a row, or that no distance was below infinity.
-pub fn nearest_in_leaf(
-    s: Settings,
-    n: Counters,
-    floats: &[f64],
-    list: &[u32],
-    row: &[f64],
-) -> Nearest
+pub fn search_leaf(s: Settings, n: Counters, floats: &[f64], list: &[u32], row: &[f64]) -> Nearest
     requires { ⌜ Floats s n (length (now floats)) × (s .dim ≤ length (now row)) × ChildrenIn n true (now list) ⌝ }
     ensures { λ r. ⌜ AnyLinks s n (now (floats .entry)) (λ t. r ≡ searched (λ e. distTo s (entryAt t e) (now (row .entry))) (now (list .entry))) ⌝ }
     ensures { λ r. ⌜ Inside (n .entries) r ⌝ }

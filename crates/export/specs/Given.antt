@@ -10,7 +10,7 @@ use Rattle.head.specs.declared.Head.{Head}
 use Rattle.head.specs.declared.Settings.{Settings}
 use Rattle.rules.specs.Calls.{Lent, Left, Made}
 use Rattle.refusals.specs.Lending.{lending}
-use Rattle.cftree.specs.Outcomes as Plain
+use Rattle.cftree.specs.Outcomes.{left, made}
 use Rattle.cftree.specs.declared.Outcome.{Outcome}
 use Rattle.boundary.specs.Numbers.{headNumbers, answerNumbers}
 use Rattle.export.specs.declared.OutcomeNumbers.{OutcomeNumbers}
@@ -27,11 +27,11 @@ pub record LeftNumbers : Type 0 where
 unfoldable pub leftNumbers : Left → LeftNumbers
 leftNumbers l = record { outcome = record { head = headNumbers (l .head); answer = answerNumbers (l .answer) }; lent = l .lent }
 
-abbrev pub left : OutcomeNumbers → List Float → List ℕ → List Float → List ℕ → LeftNumbers
-left r fs ls sf sl = record { outcome = r; lent = lending fs ls sf sl }
+abbrev pub numbersLeft : OutcomeNumbers → List Float → List ℕ → List Float → List ℕ → LeftNumbers
+numbersLeft r fs ls sf sl = record { outcome = r; lent = lending fs ls sf sl }
 
 pub left-numbers : {r : OutcomeNumbers} {o : Outcome} {fs : List Float} {ls : List ℕ} {sf : List Float} {sl : List ℕ} {l : Left}
-    → r ≡ outcomeNumbers o → Plain.left o fs ls sf sl ≡ l → left r fs ls sf sl ≡ leftNumbers l
+    → r ≡ outcomeNumbers o → left o fs ls sf sl ≡ l → numbersLeft r fs ls sf sl ≡ leftNumbers l
 unfolding leftNumbers outcomeNumbers
 left-numbers {fs = fs} {ls = ls} {sf = sf} {sl = sl} p q = rw p (ap leftNumbers q)
 
@@ -45,11 +45,11 @@ pub record MadeNumbers : Type 0 where
 unfoldable pub madeNumbers : Made → MadeNumbers
 madeNumbers m = record { outcome = record { head = headNumbers (m .head); answer = answerNumbers (m .answer) }; floats = m .floats; links = m .links }
 
-abbrev pub made : OutcomeNumbers → List Float → List ℕ → MadeNumbers
-made r fs ls = record { outcome = r; floats = fs; links = ls }
+abbrev pub numbersMade : OutcomeNumbers → List Float → List ℕ → MadeNumbers
+numbersMade r fs ls = record { outcome = r; floats = fs; links = ls }
 
 pub made-numbers : {r : OutcomeNumbers} {o : Outcome} {fs : List Float} {ls : List ℕ} {m : Made}
-    → r ≡ outcomeNumbers o → Plain.made o fs ls ≡ m → made r fs ls ≡ madeNumbers m
+    → r ≡ outcomeNumbers o → made o fs ls ≡ m → numbersMade r fs ls ≡ madeNumbers m
 unfolding madeNumbers outcomeNumbers
 made-numbers p q = rw p (ap madeNumbers q)
 

@@ -3,7 +3,7 @@ ghost use mathlib.Core.Path.{_≡_};
 ghost use Rattle.rules.specs.Calls.{created, rowInserted, batchInserted, batchRefitted};
 ghost use Rattle.refusals.specs.Lending.{lending};
 ghost use Rattle.boundary.specs.Numbers.{headOf};
-ghost use Rattle.export.specs.Given.{made, madeNumbers, left, leftNumbers};
+ghost use Rattle.export.specs.Given.{numbersMade, madeNumbers, numbersLeft, leftNumbers};
 use crate::OutcomeNumbers;
 use crate::given::outcome_numbers;
 use boundary::HeadNumbers;
@@ -17,7 +17,7 @@ pub extern "C" fn cftree_create(
     floats: &mut [f64],
     links: &mut [u32],
 ) -> OutcomeNumbers
-    ensures { λ r. ⌜ made r (now (floats .exit)) (now (links .exit)) ≡ madeNumbers (created (headOf h) (now (floats .entry)) (now (links .entry))) ⌝ }
+    ensures { λ r. ⌜ numbersMade r (now (floats .exit)) (now (links .exit)) ≡ madeNumbers (created (headOf h) (now (floats .entry)) (now (links .entry))) ⌝ }
 {
     let h = head_of(h);
     let outcome = change::create(h, floats, links);
@@ -35,7 +35,7 @@ pub extern "C" fn cftree_insert_row(
     row: &[f64],
 ) -> OutcomeNumbers
     ensures { λ r. ⌜
-        left r (now (floats .exit)) (now (links .exit)) (now (scratch .exit)) (now (numbers .exit))
+        numbersLeft r (now (floats .exit)) (now (links .exit)) (now (scratch .exit)) (now (numbers .exit))
         ≡ leftNumbers
         (rowInserted (headOf h) (lending (now (floats .entry)) (now (links .entry)) (now (scratch .entry)) (now (numbers .entry))) (now (row .entry))) ⌝ }
 {
@@ -55,7 +55,7 @@ pub extern "C" fn cftree_insert_batch(
     rows: &[f64],
 ) -> OutcomeNumbers
     ensures { λ r. ⌜
-        left r (now (floats .exit)) (now (links .exit)) (now (scratch .exit)) (now (numbers .exit))
+        numbersLeft r (now (floats .exit)) (now (links .exit)) (now (scratch .exit)) (now (numbers .exit))
         ≡ leftNumbers
         (batchInserted (headOf h) (lending (now (floats .entry)) (now (links .entry)) (now (scratch .entry)) (now (numbers .entry))) (now (rows .entry))) ⌝ }
 {
@@ -75,7 +75,7 @@ pub extern "C" fn cftree_refit(
     rows: &[f64],
 ) -> OutcomeNumbers
     ensures { λ r. ⌜
-        left r (now (floats .exit)) (now (links .exit)) (now (scratch .exit)) (now (numbers .exit))
+        numbersLeft r (now (floats .exit)) (now (links .exit)) (now (scratch .exit)) (now (numbers .exit))
         ≡ leftNumbers
         (batchRefitted (headOf h) (lending (now (floats .entry)) (now (links .entry)) (now (scratch .entry)) (now (numbers .entry))) (now (rows .entry))) ⌝ }
 {

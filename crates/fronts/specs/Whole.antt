@@ -15,11 +15,11 @@ use Rattle.rules.specs.CallLaws.{put-front}
 use Rattle.fronts.specs.Fronts.{TreeLeft}
 
 -- what creation gives back and leaves
-abbrev pub made : Head → List Float → List ℕ → Made
-made g fs ls = record { head = g; answer = Accepted; floats = fs; links = ls }
+abbrev pub headMade : Head → List Float → List ℕ → Made
+headMade g fs ls = record { head = g; answer = Accepted; floats = fs; links = ls }
 
 pub made-whole : (h : Head) (fs : List Float) (ls : List ℕ) {g : Head} {n : Counters} {gs : List Float} {ks : List ℕ} {i j : ℕ}
     → TreeLeft (settingsOf h) (fresh (h .counters .running .threshold)) n gs ks → g ≡ withCounters h n → length gs ≡ i → length ks ≡ j
-    → made g (gs ++ drop i fs) (ks ++ drop j ls) ≡ madeBy [] h fs ls
+    → headMade g (gs ++ drop i fs) (ks ++ drop j ls) ≡ madeBy [] h fs ls
 unfolding madeBy countersOf fresh newCounters
 made-whole h fs ls {g} {n} {gs} {ks} {i} {j} t c p o = rw (put-front gs fs i p, put-front ks ls j o, c, t .counters, t .floats, t .links)

@@ -7,7 +7,7 @@ ghost use Rattle.head.specs.Sizes.{floatsNeeded, linksNeeded};
 ghost use Rattle.rules.specs.Tree.{fresh};
 ghost use Rattle.rules.specs.Calls.{madeBy};
 ghost use Rattle.fronts.specs.Fronts.{TreeLeft};
-ghost use Rattle.fronts.specs.Whole.{made};
+ghost use Rattle.fronts.specs.Whole.{headMade};
 ghost use Rattle.rules.specs.CallLaws.{Granted};
 use crate::tidy::tidy;
 use head::Counters;
@@ -28,7 +28,7 @@ fn empty(s: Settings, threshold: f64, floats: &mut [f64], links: &mut [u32]) -> 
 // In the front of any that are long enough; gives the head.
 pub fn create(h: Head, floats: &mut [f64], links: &mut [u32]) -> Head
     requires { ⌜ Granted h (now floats) (now links) ⌝ }
-    ensures { λ r. ⌜ made r (now (floats .exit)) (now (links .exit)) ≡ madeBy [] h (now (floats .entry)) (now (links .entry)) ⌝ }
+    ensures { λ r. ⌜ headMade r (now (floats .exit)) (now (links .exit)) ≡ madeBy [] h (now (floats .entry)) (now (links .entry)) ⌝ }
 {
     let s = h.settings();
     let threshold = h.counters.running.threshold;

@@ -20,7 +20,7 @@ use arena::links;
 use descent::descend;
 use descent::form;
 use descent::form::Form;
-use descent::leaf::nearest_in_leaf;
+use descent::leaf::search_leaf;
 use descent::path::feed_path;
 use feature::Summary;
 use head::Counters;
@@ -60,7 +60,7 @@ fn absorbs(s: Settings, n: Counters, floats: &[f64], e: usize, row: &[f64]) -> b
 }
 
 // A row goes into the nearest entry of a leaf if that absorbs it, and begins an entry else.
-fn place(
+fn try_absorb(
     s: Settings,
     n: Counters,
     floats: &mut [f64],
@@ -74,7 +74,7 @@ fn place(
     ensures { λ r. ⌜
         treeOf s r (now (floats .exit)) (now (links .exit)) ≡ placed (rowItem s (now (row .entry))) leaf (treeOf s n (now (floats .entry)) (now (links .entry))) ⌝ }
 {
-    let near = nearest_in_leaf(s, n, floats, links::list(s, n, links, leaf), row);
+    let near = search_leaf(s, n, floats, links::list(s, n, links, leaf), row);
     let Nearest::Entry(e) = near else {
         return begin(s, n, floats, links, leaf, form::alone(s, Form::Row, row));
     };
@@ -121,12 +121,12 @@ pub fn grow(
 {
     let leaf = descend(s, n, floats, links, Form::Row, row);
     feed_path(s, n, floats, links, leaf, Form::Row, row);
-    let m = place(s, n, floats, links, leaf, row);
+    let m = try_absorb(s, n, floats, links, leaf, row);
     split_if_over(s, m, floats, links, leaf)
 }
 
 // The summary in a slot of its own as a new entry, nothing absorbed.
-pub fn replace(
+pub fn place_cf(
     s: Settings,
     n: Counters,
     floats: &mut [f64],

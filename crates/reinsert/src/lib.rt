@@ -17,7 +17,7 @@ ghost use Rattle.reinsert.specs.Whole.{clearedCounts, Reinsertable};
 use crate::collect::collect;
 use arena::links;
 use arena::nodes;
-use grow::replace;
+use grow::place_cf;
 use head::Counters;
 use head::Settings;
 use stretch::block::Parent;
@@ -53,7 +53,7 @@ fn replace_slot(
 {
     let w = s.slot_width();
     let at = i * w;
-    replace(s, n, floats, links, &scratch[at..at + w])
+    place_cf(s, n, floats, links, &scratch[at..at + w])
 }
 
 // The first `count` summaries in scratch become entries, from the last to the first.

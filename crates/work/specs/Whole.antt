@@ -22,8 +22,8 @@ use Rattle.refusals.specs.Lending.{lending}
 use Rattle.fronts.specs.Fronts.{Fronts, AllLeft}
 
 -- what an accepted call gives back and leaves
-abbrev pub left : Head → List Float → List ℕ → List Float → List ℕ → Left
-left g fs ls sf sl = record { head = g; answer = Accepted; lent = lending fs ls sf sl }
+abbrev pub headLeft : Head → List Float → List ℕ → List Float → List ℕ → Left
+headLeft g fs ls sf sl = record { head = g; answer = Accepted; lent = lending fs ls sf sl }
 
 module _ (h : Head) (l : Lent) (ready : Ready h l) where
   pub sized : Sized (settingsOf h)
@@ -61,7 +61,7 @@ module _ (h : Head) (l : Lent) (ready : Ready h l) where
 
 pub left-whole : (h : Head) (l : Lent) (t : Tree) {g : Head} {n : Counters} {gs : List Float} {ks : List ℕ} {ss : List Float} {ns : List ℕ} {i j k m : ℕ}
     → AllLeft (settingsOf h) t n gs ks ss ns → g ≡ withCounters h n → length gs ≡ i → length ks ≡ j → length ss ≡ k → length ns ≡ m
-    → left g (gs ++ drop i (l .floats)) (ks ++ drop j (l .links)) (ss ++ drop k (l .scratchFloats)) (ns ++ drop m (l .scratchLinks)) ≡ changed h l t
+    → headLeft g (gs ++ drop i (l .floats)) (ks ++ drop j (l .links)) (ss ++ drop k (l .scratchFloats)) (ns ++ drop m (l .scratchLinks)) ≡ changed h l t
 unfolding changed
 left-whole h l t {g} {n} {gs} {ks} {ss} {ns} {i} {j} {k} {m} d c p o u v =
     rw (put-front gs (l .floats) i p, put-front ks (l .links) j o, put-front ss (l .scratchFloats) k u, put-front ns (l .scratchLinks) m v, c, d .tree .counters, d .tree .floats, d .tree .links, d .scratch, d .numbers)

@@ -8,7 +8,7 @@ ghost use Rattle.rules.specs.Calls.{changed, lentTree};
 ghost use Rattle.rules.specs.CallLaws.{Ready};
 ghost use Rattle.refusals.specs.Lending.{lending};
 ghost use Rattle.work.specs.Worked.{worked, Workable};
-ghost use Rattle.work.specs.Whole.{left};
+ghost use Rattle.work.specs.Whole.{headLeft};
 use crate::Work;
 use crate::perform_tidily;
 use head::Head;
@@ -27,7 +27,7 @@ pub fn change(
     requires { ⌜ Ready h (lending (now floats) (now links) (now scratch) (now numbers)) × (count * settingsOf h .dim ≤ length (now rows)) ⌝ }
     requires { ⌜ Workable w (settingsOf h) count (lentTree h (now floats) (now links)) ⌝ }
     ensures { λ r. ⌜
-        left r (now (floats .exit)) (now (links .exit)) (now (scratch .exit)) (now (numbers .exit))
+        headLeft r (now (floats .exit)) (now (links .exit)) (now (scratch .exit)) (now (numbers .exit))
         ≡ changed h (lending (now (floats .entry)) (now (links .entry)) (now (scratch .entry)) (now (numbers .entry)))
         (worked w (settingsOf h) (rowsOf count (settingsOf h .dim) (now (rows .entry))) (lentTree h (now (floats .entry)) (now (links .entry)))) ⌝ }
 {

@@ -16,7 +16,7 @@ start c = c .before .before .before .before .before .before
 abbrev found : tie.After-feed-path → tie.After-descend
 found c = c .before .before .before
 
-abbrev fed : tie.After-place → tie.After-feed-path
+abbrev fed : tie.After-try-absorb → tie.After-feed-path
 fed c = c .before .before .before .before .before
 
 -- the tree as it is lent
@@ -45,8 +45,8 @@ feed-path-requires c κs =
       (growable-sure _ _ (start .pre .1), c .before .before .descend .ensures .1),
     )
 
-place-requires : tie.Need-place-requires
-place-requires c κs =
+try-absorb-requires : tie.Need-try-absorb-requires
+try-absorb-requires c κs =
     let fed = c .before .before .before .before in
     let down = found fed in
     let start = start down in
@@ -62,9 +62,9 @@ split-if-over-requires c κs =
     let down = found fed in
     let start = start down in
     let a = start .args in
-    let floats = rw (sym (placed .place .kept .1 .1 .0)) at (placed .place .ensures .0 .0) in (
-      (floats, rw (sym (placed .place .kept .1 .1 .1 .0)) at (placed .place .ensures .0 .1)),
-      row-rising (a .s) (a .n) (a .floats .now) _ (a .links .now) (a .row .now) _ (start .pre .1) (leaf down) _ _ _ (path fed) (placed .place .ensures .1)
+    let floats = rw (sym (placed .try-absorb .kept .1 .1 .0)) at (placed .try-absorb .ensures .0 .0) in (
+      (floats, rw (sym (placed .try-absorb .kept .1 .1 .1 .0)) at (placed .try-absorb .ensures .0 .1)),
+      row-rising (a .s) (a .n) (a .floats .now) _ (a .links .now) (a .row .now) _ (start .pre .1) (leaf down) _ _ _ (path fed) (placed .try-absorb .ensures .1)
           floats,
     )
 
@@ -77,12 +77,12 @@ returns c =
     let start = start down in
     let a = start .args in (
       (
-        rw (placed .place .kept .1 .1 .0, fed .feed-path .kept .1 .1 .0) at (split .ensures .0 .0),
-        rw (placed .place .kept .1 .1 .1 .0) at (split .ensures .0 .1),
+        rw (placed .try-absorb .kept .1 .1 .0, fed .feed-path .kept .1 .1 .0) at (split .ensures .0 .0),
+        rw (placed .try-absorb .kept .1 .1 .1 .0) at (split .ensures .0 .1),
       ),
-      grown-is (a .s) (a .n) (a .floats .now) _ (a .links .now) (a .row .now) _ (start .pre .1) (leaf down) _ _ _ (path fed) (placed .place .ensures .1)
+      grown-is (a .s) (a .n) (a .floats .now) _ (a .links .now) (a .row .now) _ (start .pre .1) (leaf down) _ _ _ (path fed) (placed .try-absorb .ensures .1)
           (split .ensures .1),
     )
 
 pub grow-spec : {M : Type 1} → statement M
-grow-spec = tie.close (tie.spec descend-requires feed-path-requires place-requires split-if-over-requires (λ c. search needs) (λ c. search needs) returns)
+grow-spec = tie.close (tie.spec descend-requires feed-path-requires try-absorb-requires split-if-over-requires (λ c. search needs) (λ c. search needs) returns)

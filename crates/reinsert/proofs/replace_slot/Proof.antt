@@ -33,23 +33,23 @@ summary c =
 mul-at : tie.Need-mul-at
 mul-at c = omega (arith, fits c)
 
-add-replace : tie.Need-add-replace
-add-replace c = omega (arith, fits (c .before .before))
+add-place-cf : tie.Need-add-place-cf
+add-place-cf c = omega (arith, fits (c .before .before))
 
-mul-replace : tie.Need-mul-replace
-mul-replace c = omega (arith, fits (c .before .before))
+mul-place-cf : tie.Need-mul-place-cf
+mul-place-cf c = omega (arith, fits (c .before .before))
 
-sub-replace : tie.Need-sub-replace
-sub-replace c = omega (arith, fits (c .before .before))
+sub-place-cf : tie.Need-sub-place-cf
+sub-place-cf c = omega (arith, fits (c .before .before))
 
-part-replace-start : tie.Need-part-replace-start
-part-replace-start c = omega (arith, fits (c .before .before))
+part-place-cf-start : tie.Need-part-place-cf-start
+part-place-cf-start c = omega (arith, fits (c .before .before))
 
-part-replace-end : tie.Need-part-replace-end
-part-replace-end c = omega (arith, fits (c .before .before))
+part-place-cf-end : tie.Need-part-place-cf-end
+part-place-cf-end c = omega (arith, fits (c .before .before))
 
-replace-requires : tie.Need-replace-requires
-replace-requires c κs =
+place-cf-requires : tie.Need-place-cf-requires
+place-cf-requires c κs =
     let width = c .before .before .before in
     let start = start width in
     let a = start .args in (
@@ -67,9 +67,9 @@ returns c =
     let width = new .before .before .before .before in
     let a = start width .args in
     let t = treeOf (a .s) (a .n) (a .floats .now) (a .links .now) in
-    (new .replace .ensures .0, new .replace .ensures .1 ∙ ap (λ e. replaced (a .s) e t) (summary width))
+    (new .place-cf .ensures .0, new .place-cf .ensures .1 ∙ ap (λ e. replaced (a .s) e t) (summary width))
 
 pub replace-slot-spec : {M : Type 1} → statement M
 replace-slot-spec =
-    tie.close (tie.spec (λ c κs. search needs) mul-at add-replace mul-replace sub-replace part-replace-start part-replace-end replace-requires
+    tie.close (tie.spec (λ c κs. search needs) mul-at add-place-cf mul-place-cf sub-place-cf part-place-cf-start part-place-cf-end place-cf-requires
     (λ c. search needs) (λ c. search needs) returns)

@@ -1,4 +1,4 @@
--- `grow::replace` meets its contract: the leaf is found, its path fed, the summary begun in it, and the way up split.
+-- `grow::place_cf` meets its contract: the leaf is found, its path fed, the summary begun in it, and the way up split.
 use Prim.Native.Nat.{ℕ}
 use mathlib.Core.Path.{_≡_, sym, ap, _∙_, subst}
 use borrow.Author.Needs.{needs}
@@ -14,8 +14,8 @@ use Rattle.arena.specs.Trees.{Floats, Links}
 use Rattle.descent.specs.Forms.{fits-slot, item-slot}
 use Rattle.grow.specs.Places.{Place, place-spare, floats-begun, links-begun}
 use Rattle.grow.specs.Room.{placeable-sure, entry-place, entry-rising, replaced-is}
-use Rattle.grow.proofs.replace.Statement.{statement}
-use Rattle.grow.proofs.replace.Tie as tie
+use Rattle.grow.proofs.place_cf.Statement.{statement}
+use Rattle.grow.proofs.place_cf.Tie as tie
 
 -- the start, from the descent done; the descent, from the path fed; the path, from the entry begun
 abbrev start : tie.After-descend → tie.Start
@@ -133,7 +133,7 @@ returns c =
           (split .ensures .1),
     )
 
-pub replace-spec : {M : Type 1} → statement M
-replace-spec =
+pub place-cf-spec : {M : Type 1} → statement M
+place-cf-spec =
     tie.close (tie.spec descend-requires feed-path-requires load-requires begin-requires split-up-requires (λ c. search needs) (λ c. search needs)
     returns)

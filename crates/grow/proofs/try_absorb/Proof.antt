@@ -1,4 +1,4 @@
--- `grow::place` meets its contract: the search gives an entry that absorbs the row, one that does not, or nothing.
+-- `grow::try_absorb` meets its contract: the search gives an entry that absorbs the row, one that does not, or nothing.
 use Prim.Native.Nat.{ℕ, _+_, _<_}
 use mathlib.Core.Path.{_≡_, refl, sym, ap, _∙_, subst}
 use mathlib.Core.Bool.{true}
@@ -20,17 +20,17 @@ use Rattle.descent.specs.declared.form.Form.the-variants.{Row}
 use Rattle.descent.specs.Forms.{FormFits, fits-row, itemOf, item-row}
 use Rattle.descent.specs.Searched.{entryDistance, entry-inside}
 use Rattle.grow.specs.Places.{place-spare, alone-shaped, floats-begun, links-begun, placed-nothing, placed-absorbed, placed-begun}
-use Rattle.grow.proofs.place.Statement.{statement}
-use Rattle.grow.proofs.place.Tie as tie
+use Rattle.grow.proofs.try_absorb.Statement.{statement}
+use Rattle.grow.proofs.try_absorb.Tie as tie
 
 -- the start, from the search done; the search, from a row alone or from an entry tested; the test, from a row alone
-abbrev start : tie.After-nearest-in-leaf → tie.Start
+abbrev start : tie.After-search-leaf → tie.Start
 start c = c .before .before .before .before .before .before .before
 
-abbrev none : tie.After-alone → tie.After-nearest-in-leaf
+abbrev none : tie.After-alone → tie.After-search-leaf
 none c = c .before .before .before .before .before
 
-abbrev some : tie.After-absorbs → tie.After-nearest-in-leaf
+abbrev some : tie.After-absorbs → tie.After-search-leaf
 some c = c .before .before .before .before .before
 
 abbrev tested : tie.After-alone2 → tie.After-absorbs
@@ -41,16 +41,16 @@ abbrev tree : tie.Start → Tree
 tree c = treeOf (c .args .s) (c .args .n) (c .args .floats .now) (c .args .links .now)
 
 -- what the search gives is the rule's, and an entry that it gives is there
-found : (c : tie.After-nearest-in-leaf)
-    → c .nearest-in-leaf .result
+found : (c : tie.After-search-leaf)
+    → c .search-leaf .result
     ≡ searched (entryDistance (start c .args .s) (start c .args .row .now) (tree (start c))) (nodeAt (tree (start c)) (start c .args .leaf) .list)
 found c =
     let a = start c .args in
-    c .nearest-in-leaf .ensures .0 (a .links .now)
+    c .search-leaf .ensures .0 (a .links .now)
     ∙ ap (searched (entryDistance (a .s) (a .row .now) (tree (start c)))) (c .before .list .ensures (a .floats .now))
 
-there : (c : tie.After-nearest-in-leaf) {e : ℕ} → c .nearest-in-leaf .result ≡ Entry e → e < start c .args .n .entries
-there c q = entry-inside (start c .args .n .entries) _ _ q (c .nearest-in-leaf .ensures .1)
+there : (c : tie.After-search-leaf) {e : ℕ} → c .search-leaf .result ≡ Entry e → e < start c .args .n .entries
+there c q = entry-inside (start c .args .n .entries) _ _ q (c .search-leaf .ensures .1)
 
 -- the summary of the row alone, from either branch
 row-fits : (c : tie.Start) → FormFits (c .args .s) Row (c .args .row .now)
@@ -78,8 +78,8 @@ module _ (c : tie.Start) {r : Counters} (q : r ≡ countEntries (c .args .n .ent
     links-begun (c .args .s) (c .args .n) r q refl (c .pre .0 .1),
   )
 
-nearest-in-leaf-requires : tie.Need-nearest-in-leaf-requires
-nearest-in-leaf-requires c κs =
+search-leaf-requires : tie.Need-search-leaf-requires
+search-leaf-requires c κs =
     let start = c .before .before .before .before .before .before in
     let a = start .args in
     (start .pre .0 .0, start .pre .0 .2, subst (ChildrenIn (a .n) true) (sym (c .list .ensures (a .floats .now))) (start .pre .1 .inside))
@@ -151,8 +151,8 @@ returns-3 c =
           (tested .absorbs .ensures (a .links .now)) (new .before .before .before .if1 .left) (row-begun start (new .alone2 .ensures) (begin .ensures .1)),
     )
 
-pub place-spec : {M : Type 1} → statement M
-place-spec =
-    tie.close (tie.spec (λ c κs. search needs) nearest-in-leaf-requires (λ c. search needs) (λ c. search needs) alone-requires begin-requires
+pub try-absorb-spec : {M : Type 1} → statement M
+try-absorb-spec =
+    tie.close (tie.spec (λ c κs. search needs) search-leaf-requires (λ c. search needs) (λ c. search needs) alone-requires begin-requires
     (λ c. search needs) (λ c. search needs) returns absorbs-requires push-requires (λ c. search needs) (λ c. search needs) returns-2 alone-requires-2
     begin-requires-2 (λ c. search needs) (λ c. search needs) returns-3)

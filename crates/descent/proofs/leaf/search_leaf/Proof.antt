@@ -1,4 +1,4 @@
--- `descent::leaf::nearest_in_leaf` meets its contract: what is left of the list, from what is found so far, leads to what the whole gives.
+-- `descent::leaf::search_leaf` meets its contract: what is left of the list, from what is found so far, leads to what the whole gives.
 use Prim.Native.Nat.{_-_}
 use mathlib.Core.Path.{_≡_, sym, _∙_}
 use mathlib.Core.Logic.{inl, inr}
@@ -11,8 +11,8 @@ use Rattle.arena.specs.Trees.{AnyLinks}
 use Rattle.bounds.specs.Sure.{entry-listed}
 use Rattle.descent.specs.Searched.{Inside, inside-entry, inside-nothing, entryDistance, searchedFrom}
 use Rattle.descent.specs.Searched.{search-start, search-taken, search-left, search-end}
-use Rattle.descent.proofs.leaf.nearest_in_leaf.Statement.{statement}
-use Rattle.descent.proofs.leaf.nearest_in_leaf.Tie as tie
+use Rattle.descent.proofs.leaf.search_leaf.Statement.{statement}
+use Rattle.descent.proofs.leaf.search_leaf.Tie as tie
 
 abbrev Inv-loop : tie.InvT-loop
 Inv-loop s n floats list row dist near₀ least₀ k₀ near least k =
@@ -55,8 +55,8 @@ returns c =
     let loop = c .before .loop in
     (λ ls. sym (search-end _ _ (loop .k) (loop .near) (loop .least) (omega arith)) ∙ loop .inv .1 ls, loop .inv .0)
 
-pub nearest-in-leaf-spec : {M : Type 1} → statement M
-nearest-in-leaf-spec =
+pub search-leaf-spec : {M : Type 1} → statement M
+search-leaf-spec =
     tie.close (tie.spec Inv-loop μ-loop loop-holds (λ c. search needs) (λ c. search needs)
     (λ c. omega (arith, c .shared-slice-known4 .given (c .before .before .loop .k))) to-row-requires (λ c. search needs) (λ c. search needs) loop-again
     returns)

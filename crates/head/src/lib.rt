@@ -1,5 +1,5 @@
 // The head that a caller lends by value, the sizes that its settings ask for, and the refusals.
-pub mod counting;
+pub mod changes;
 pub mod limits;
 pub mod refusal;
 pub mod sizes;

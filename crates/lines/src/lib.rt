@@ -13,7 +13,7 @@ use reasons::Reason;
 use text::First;
 use text::RowLine;
 use text::heads::first_line;
-use text::rows::row_line;
+use text::row::row_line;
 use work::Work;
 use work::change::change;
 

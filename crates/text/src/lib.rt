@@ -3,7 +3,7 @@ pub mod digits;
 pub mod fields;
 pub mod heads;
 pub mod numbers;
-pub mod rows;
+pub mod row;
 pub mod words;
 pub mod writing;
 

@@ -1,4 +1,4 @@
--- `text::rows::floats` meets its contract: the first k fields are the first k of the row.
+-- `text::row::floats` meets its contract: the first k fields are the first k of the row.
 use Prim.Native.Nat.{_-_, _≤_}
 use mathlib.Core.Path.{_≡_, refl, sym, ap, _∙_}
 use native.Mathlib.Omega.{arith}
@@ -7,8 +7,8 @@ use lib.ListN.{length, length-set}
 use Rattle.rules.specs.Listing.{fieldsOf, hexFloat}
 use Rattle.text.specs.Told.{realTold, real-some, real-none}
 use Rattle.text.specs.Rows.{FrontRead, front-none, front-more, front-all, floats-stop, none-read}
-use Rattle.text.proofs.rows.floats.Statement.{statement}
-use Rattle.text.proofs.rows.floats.Tie as tie
+use Rattle.text.proofs.row.floats.Statement.{statement}
+use Rattle.text.proofs.row.floats.Tie as tie
 
 abbrev Inv-loop : tie.InvT-loop
 Inv-loop line dim row₀ k₀ row k = (k ≤ dim) × (length row ≡ length row₀) × FrontRead (fieldsOf line) row₀ row k

@@ -1,10 +1,10 @@
--- `text::rows::row_line` meets its contract: the line's length, its fields, and their floats.
+-- `text::row::row_line` meets its contract: the line's length, its fields, and their floats.
 use mathlib.Core.Path.{_∙_}
 use native.Mathlib.Omega.{arith}
 use borrow.Author.Needs.{needs}
 use Rattle.text.specs.Rows.{none-read, floats-long, other-read, short-read}
-use Rattle.text.proofs.rows.row_line.Statement.{statement}
-use Rattle.text.proofs.rows.row_line.Tie as tie
+use Rattle.text.proofs.row.row_line.Statement.{statement}
+use Rattle.text.proofs.row.row_line.Tie as tie
 
 returns : tie.Need-returns
 returns c = none-read _ _ _ _ (floats-long (c .before .before .before .args .line .now) (omega arith))

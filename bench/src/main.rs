@@ -1,6 +1,8 @@
 //! Rows per second of the library and of the Rust original, and the ratio of their times.
 
+mod check;
 mod rows;
+mod shapes;
 mod sides;
 
 use betula::distance::{CFDistance, CentroidEuclidean, Radius, VarianceIncrease};
@@ -198,13 +200,13 @@ fn insert(m: usize, runs: usize) {
 fn main() {
     let words: Vec<String> = std::env::args().skip(1).collect();
     let words: Vec<&str> = words.iter().map(String::as_str).collect();
+    let number = |w: &str| w.parse().expect("a number");
     match words[..] {
         [] => {}
-        ["insert", m, runs] => {
-            let number = |w: &str| w.parse().expect("bench insert M RUNS");
-            return insert(number(m), number(runs));
-        }
-        _ => panic!("usage: bench [insert M RUNS]"),
+        ["insert", m, runs] => return insert(number(m), number(runs)),
+        ["check"] => return check::table(),
+        ["check", line, times] => return check::repeat(number(line), number(times)),
+        _ => panic!("usage: bench [insert M RUNS | check [LINE TIMES]]"),
     }
     println!("| what | ours, rows/s | Rust, rows/s | time, ours/Rust | over {RUNS} runs |");
     println!("|---|---|---|---|---|");

@@ -18,6 +18,11 @@ impl Rows {
         (self.state >> 11) as f64 / (1u64 << 53) as f64
     }
 
+    /// From 0 to n − 1.
+    pub fn below(&mut self, n: usize) -> usize {
+        (self.unit() * n as f64) as usize
+    }
+
     /// Roughly normal, around 0.
     fn noise(&mut self) -> f64 {
         (0..4).map(|_| self.unit()).sum::<f64>() - 2.0

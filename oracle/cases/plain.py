@@ -150,10 +150,17 @@ def renumber(draw, tree):
     """Nodes in any order, the root at any number."""
     new = list(range(len(tree.nodes)))
     draw.shuffle(new)
+    numbered(tree, new)
+
+
+def numbered(tree, new):
+    """Node i becomes node new[i]; a number that is no node's stays."""
+    def to(number):
+        return new[number] if number is not None and number < len(new) else number
     nodes = [None] * len(new)
     for old, node in enumerate(tree.nodes):
-        node.parent = None if node.parent is None else new[node.parent]
+        node.parent = to(node.parent)
         if not node.leaf:
-            node.list = [new[c] for c in node.list]
+            node.list = [to(c) for c in node.list]
         nodes[new[old]] = node
-    tree.nodes, tree.root = nodes, new[tree.root]
+    tree.nodes, tree.root = nodes, to(tree.root)

@@ -110,6 +110,20 @@ unfolding sumTo
 sum-ones zero = refl
 sum-ones (suc n) = let h = sum-ones n in omega arith
 
+-- as much as there are numbers, none more than 1: each is 1
+pub sum-full : (g : ℕ → ℕ) (n : ℕ) → ((k : ℕ) → k < n → g k ≤ 1) → sumTo g n ≡ n → (k : ℕ) → k < n → g k ≡ 1
+unfolding sumTo
+sum-full g zero h e k q = absurd (omega arith)
+sum-full g (suc n) h e k q =
+    let a = h n (omega arith) in
+    let b = sum-le g (λ _. 1) n (λ j l. h j (omega arith)) in
+    let d = sum-ones n in
+    go (same? k n) (sum-full g n (λ j l. h j (omega arith)) (omega arith) k) (omega arith)
+  where
+    go : (k ≡ n) ⊎ (k ≢ n) → (k < n → g k ≡ 1) → g n ≡ 1 → g k ≡ 1
+    go (inl w) ih one = ap g w ∙ one
+    go (inr w) ih one = ih (omega arith)
+
 pub sum-change : (g h : ℕ → ℕ) (i n : ℕ) → i < n → ((k : ℕ) → k < n → k ≢ i → h k ≡ g k) → sumTo h n + g i ≡ sumTo g n + h i
 unfolding sumTo
 sum-change g h i zero l e = absurd (not-suc-le-zero l)

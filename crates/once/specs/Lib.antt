@@ -1,3 +1,2 @@
--- A set of numbers below 256, and the entries that it has seen.
-pub mod Seen
+-- Each entry once, by the set of those that the leaf lists have named.
 pub mod Once

@@ -1,5 +1,5 @@
 -- Each entry once, by one pass over the leaf lists with the set of those met: as many as the entries, all below their count, none twice.
-use Prim.Native.Nat.{ℕ, zero, suc, _+_, _≤_, _<_}
+use Prim.Native.Nat.{ℕ, _+_, _≤_, _<_}
 use mathlib.Core.Path.{_≡_, refl, sym, ap, _∙_, subst}
 use mathlib.Core.Logic.{_⊎_, inl, inr, _≢_}
 use mathlib.Core.Bool.{Bool, true, false, cond, _&&_}
@@ -18,16 +18,16 @@ use Rattle.rules.specs.Tree.{Tree, blankNode, nodeAt, cap}
 use Rattle.rules.specs.Check.{known, listFits, onceEach, leafLists}
 use Rattle.rules.specs.Slices.{treeOf}
 use Rattle.arena.specs.Trees.{count-nodes, count-entries}
-use Rattle.counting.specs.Count.{is, is-same, same?, lt?, below, below-in, below-out, below-le}
-use Rattle.counting.specs.Sums.{over, length-over, over-same, sumTo, sum-le, sum-ones, sum-some}
+use Rattle.counting.specs.Count.{is, is-same, lt?, below, below-in, below-out, below-le}
+use Rattle.counting.specs.Sums.{over, length-over, over-same, sumTo, sum-full, sum-some}
 use Rattle.laws.specs.Check.Accept.{occurs-sum, once-back}
 use Rattle.laws.specs.Check.Passing.{every-up, once-each}
 use Rattle.lists.specs.Loops.{fails-at, passed-all, sum-none, sum-more, sum-grows, occurs-places}
 use Rattle.lists.specs.Lent.{leafList, holds, leaves-occurs}
-use Rattle.once.specs.declared.seen.Seen.{Seen}
-use Rattle.once.specs.declared.seen.Marks.{Marks}
-use Rattle.once.specs.declared.seen.Marks.the-variants as M
-use Rattle.once.specs.Seen.{Holds, Marked, marked-apart, marked-twice, none, times, times-none, times-few, with, with-new}
+use Rattle.seen.specs.declared.Seen.{Seen}
+use Rattle.seen.specs.declared.Marks.{Marks}
+use Rattle.seen.specs.declared.Marks.the-variants as M
+use Rattle.seen.specs.Sets.{Holds, Marked, marked-apart, marked-twice, none, times, times-none, times-few, with, with-new}
 use Rattle.counting.specs.Tests.{every-at, up-at, in-at}
 
 -- no number below n stands twice in a list
@@ -35,19 +35,6 @@ unfoldable pub noneTwice : ℕ → List ℕ → Bool
 noneTwice n l = every (λ i. leb (occurs i l) 1) (upFrom n 0)
 
 -- ---- as many as there are numbers below n, none twice: each once
-
-sum-full : (g : ℕ → ℕ) (n : ℕ) → ((k : ℕ) → k < n → g k ≤ 1) → sumTo g n ≡ n → (k : ℕ) → k < n → g k ≡ 1
-unfolding sumTo
-sum-full g zero h e k q = absurd (omega arith)
-sum-full g (suc n) h e k q =
-    let a = h n (omega arith) in
-    let b = sum-le g (λ _. 1) n (λ j l. h j (omega arith)) in
-    let d = sum-ones n in
-    go (same? k n) (sum-full g n (λ j l. h j (omega arith)) (omega arith) k) (omega arith)
-  where
-    go : (k ≡ n) ⊎ (k ≢ n) → (k < n → g k ≡ 1) → g n ≡ 1 → g k ≡ 1
-    go (inl w) ih one = ap g w ∙ one
-    go (inr w) ih one = ih (omega arith)
 
 module _ (n : ℕ) (l : List ℕ) (long : length l ≡ n) (in-n : (c : ℕ) → 0 < occurs c l → c < n) where
   full : T (noneTwice n l) → (c : ℕ) → occurs c l ≡ below c n

@@ -1,6 +1,4 @@
 // Condition 4, the entries: every entry is in one leaf list, once.
-mod seen;
-
 ghost use mathlib.Core.Path.{_≡_};
 ghost use Prim.Native.Nat.{_+_, _≤_, _<_};
 ghost use lib.ListN.{length};
@@ -10,12 +8,12 @@ ghost use Rattle.rules.specs.Check.{leafLists, onceEach};
 ghost use Rattle.arena.specs.Trees.{AnyFloats, Links};
 ghost use Rattle.lists.specs.Lent.{ListsFit, Leaf, leafList};
 ghost use Rattle.once.specs.Once.{noneTwice};
-ghost use Rattle.once.specs.Seen.{Marked, times};
-use crate::seen::Marks;
-use crate::seen::Seen;
+ghost use Rattle.seen.specs.Sets.{Marked, times};
 use arena::links;
 use head::Counters;
 use head::Settings;
+use seen::Marks;
+use seen::Seen;
 
 // How many entries node i lists.
 fn leaf_len(s: Settings, n: Counters, links: &[u32], i: usize) -> usize
@@ -53,10 +51,10 @@ fn list_marks(s: Settings, n: Counters, links: &[u32], i: usize, seen: Seen) -> 
     let mut k = 0;
     while k < len {
         let e = links::list_at(s, n, links, i, k);
-        if crate::seen::has(set, e) {
+        if seen::has(set, e) {
             return Marks::Twice;
         }
-        set = crate::seen::add(set, e);
+        set = seen::add(set, e);
         k += 1;
     }
     Marks::Apart(set)
@@ -79,7 +77,7 @@ fn none_twice(s: Settings, n: Counters, links: &[u32]) -> bool
     requires { ⌜ Links s n (length (now links)) × ListsFit s n (now links) × (n .entries ≤ 256) ⌝ }
     ensures { λ r. ⌜ AnyFloats s n (now (links .entry)) (λ t. r ≡ noneTwice (n .entries) (leafLists (t .nodes))) ⌝ }
 {
-    let mut seen = crate::seen::none();
+    let mut seen = seen::none();
     let mut i = 0;
     while i < n.nodes {
         let Marks::Apart(more) = leaf_marks(s, n, links, i, seen) else {

@@ -1,33 +1,34 @@
 -- The tree check as code works it out, without a mark on any node: the same verdict as document 01's for every tree of binary64 floats.
 use Prim.Native.Nat.{ℕ, suc, _≤_}
 use mathlib.Core.Path.{_≡_, refl, sym, ap, _∙_}
-use mathlib.Core.Bool.{Bool, true, false, _&&_}
+use mathlib.Core.Bool.{Bool, true, false, cond, _&&_}
 use mathlib.Core.List.{List, [], _∷_}
 use lib.Dec.{T, leb, leb→le}
+use native.Mathlib.Omega.{arith}
+use lib.Ieee.Bits.{is-true}
 use lib.Ieee.Fits.{and-r}
 use lib.ListN.{length}
 use Rattle.head.specs.declared.Settings.{Settings}
 use Rattle.head.specs.Sizes.{nodeCap}
 use Rattle.rules.specs.declared.Verdict.{Verdict}
 use Rattle.rules.specs.declared.Verdict.the-variants.{Fails}
-use Rattle.rules.specs.Lists.{every}
+use Rattle.rules.specs.Lists.{every, concat, upFrom}
 use Rattle.rules.specs.Tree.{Tree}
-use Rattle.rules.specs.Check.{sized, rooted, listFits, linked, onceEach, leafLists, filled, level, weighed, mergedBelow, lowest, conditions, checked, Binary64}
-use Rattle.validate.specs.Climbing.{meeting}
-use Rattle.validate.specs.Meeting.{meeting-is}
-use Rattle.validate.specs.Linked.{linked-is}
-use Rattle.validate.specs.Leveled.{level-is}
-use Rattle.validate.specs.Forking.{forking}
-use Rattle.validate.specs.Forked.{forking-is}
+use Rattle.rules.specs.Check.{sized, rooted, listFits, levels, onceEach, ownList, leafLists, linked, filled, level, weighed, mergedBelow, lowest, conditions, checked, Binary64}
+use Rattle.tour.specs.declared.Walked.{Walked}
+use Rattle.tour.specs.declared.Walked.the-variants.{Astray}
+use Rattle.tour.specs.Walking.{walkOf, whole, even}
+use Rattle.tour.specs.Told.{linked-is, level-walked}
 use Rattle.weights.specs.Adding.{summed}
 use Rattle.weights.specs.Weighed.{weighed-is}
 
-unfoldable pub hung : Tree → Bool
-hung t = meeting t && onceEach (length (t .entries)) (leafLists (t .nodes))
+-- the walk, where the leaf lists have each entry once: condition 4 holds if it is whole
+unfoldable pub walkedOnce : Tree → Walked
+walkedOnce t = cond (onceEach (length (t .entries)) (leafLists (t .nodes))) (walkOf t) Astray
 
 -- the conditions in their order, as code tests them
 unfoldable pub tested : Settings → Tree → List Bool
-tested s t = sized s t ∷ rooted t ∷ every (listFits s t) (t .nodes) ∷ hung t ∷ filled t ∷ forking t ∷ summed t ∷ mergedBelow s (t .running) ∷ []
+tested s t = sized s t ∷ rooted t ∷ every (listFits s t) (t .nodes) ∷ whole (walkedOnce t) ∷ filled t ∷ even (walkedOnce t) ∷ summed t ∷ mergedBelow s (t .running) ∷ []
 
 unfoldable pub examined : Settings → Tree → Verdict
 examined s t = lowest 1 (tested s t)
@@ -40,19 +41,38 @@ onward i b c bs cs e h = go b h ∙ ap (λ z. lowest i (z ∷ cs)) e
     go true h = unfold lowest in h tt
     go false h = unfold lowest in refl
 
-linked-hung : (s : Settings) (t : Tree) → T (rooted t) → T (every (listFits s t) (t .nodes)) → linked t ≡ hung t
-unfolding hung
-linked-hung s t h2 h3 = linked-is s t h2 h3 ∙ ap (λ b. b && onceEach (length (t .entries)) (leafLists (t .nodes))) (meeting-is t)
+module _ (s : Settings) (t : Tree) (h2 : T (rooted t)) (h3 : T (every (listFits s t) (t .nodes))) where
+  linked-walked : linked t ≡ whole (walkedOnce t)
+  unfolding walkedOnce
+  linked-walked = linked-is s t h2 h3 ∙ go (onceEach (length (t .entries)) (leafLists (t .nodes)))
+    where
+      right : (a : Bool) → (a && true) ≡ a
+      right true = refl
+      right false = refl
 
-pub checked-is : (s : Settings) (t : Tree) → Binary64 t → checked s t ≡ examined s t
+      none : (a : Bool) → (a && false) ≡ false
+      none true = refl
+      none false = refl
+
+      go : (b : Bool) → (whole (walkOf t) && b) ≡ whole (cond b (walkOf t) Astray)
+      go true = right (whole (walkOf t))
+      go false = none (whole (walkOf t)) ∙ (unfold whole in refl)
+
+  level-once : length (t .entries) ≤ 256 → T (linked t) → T (filled t) → level t ≡ even (walkedOnce t)
+  unfolding walkedOnce linked
+  level-once few h4 h5 =
+      level-walked s t h2 h3 few h4 h5 ∙ sym (ap (λ b. even (cond b (walkOf t) Astray)) (is-true (onceEach (length (t .entries)) (leafLists (t .nodes)))
+      (and-r (onceEach (length (t .nodes)) (concat (levels t)) && every (ownList t) (upFrom (length (t .nodes)) 0)) _ h4)))
+
+pub checked-is : (s : Settings) (t : Tree) → s .«max_leaves» ≤ 256 → Binary64 t → checked s t ≡ examined s t
 unfolding checked conditions examined tested
-checked-is s t lent =
+checked-is s t room lent =
     onward 1 (sized s t) (sized s t) _ _ refl λ h1.
     onward 2 (rooted t) (rooted t) _ _ refl λ h2.
     onward 3 (every (listFits s t) (t .nodes)) (every (listFits s t) (t .nodes)) _ _ refl λ h3.
-    onward 4 (linked t) (hung t) _ _ (linked-hung s t h2 h3) λ h4.
+    onward 4 (linked t) (whole (walkedOnce t)) _ _ (linked-walked s t h2 h3) λ h4.
     onward 5 (filled t) (filled t) _ _ refl λ h5.
-    onward 6 (level t) (forking t) _ _ (level-is s t h2 h3 h4 h5 ∙ forking-is s t h2 h3 h4 h5) λ h6.
+    onward 6 (level t) (even (walkedOnce t)) _ _ (level-once s t h2 h3 (let q = few h1 in omega arith) h4 h5) λ h6.
     onward 7 (weighed t) (summed t) _ _ (weighed-is s t h2 h3 h4 h5 h6 lent (few h1)) λ h7. refl
   where
     few : T (sized s t) → length (t .entries) ≤ s .«max_leaves»

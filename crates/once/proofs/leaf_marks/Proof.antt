@@ -4,7 +4,7 @@ use native.Mathlib.Omega.{arith}
 use borrow.Author.Needs.{needs}
 use Rattle.rules.specs.Lists.{occurs}
 use Rattle.lists.specs.Lent.{leafList}
-use Rattle.once.specs.Seen.{Marked}
+use Rattle.seen.specs.Sets.{Marked}
 use Rattle.once.proofs.leaf_marks.Statement.{statement}
 use Rattle.once.proofs.leaf_marks.Tie as tie
 

@@ -8,7 +8,7 @@ use Rattle.rules.specs.Tree.{nodeAt}
 use Rattle.rules.specs.Slices.{treeOf}
 use Rattle.arena.specs.Trees.{AnyFloats}
 use Rattle.lists.specs.Lent.{leaf-at}
-use Rattle.once.specs.Seen.{Holds}
+use Rattle.seen.specs.Sets.{Holds}
 use Rattle.once.specs.Once.{marksAt, list-start, list-turn, list-twice, list-end}
 use Rattle.once.proofs.list_marks.Statement.{statement}
 use Rattle.once.proofs.list_marks.Tie as tie

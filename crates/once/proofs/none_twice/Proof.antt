@@ -7,7 +7,7 @@ use lib.Ieee.{Float}
 use Rattle.rules.specs.Tree.{Tree}
 use Rattle.rules.specs.Slices.{treeOf}
 use Rattle.arena.specs.Trees.{AnyFloats}
-use Rattle.once.specs.Seen.{Holds}
+use Rattle.seen.specs.Sets.{Holds}
 use Rattle.once.specs.Once.{leavesTo, leaves-start, leaves-turn, some-twice, none-twice}
 use Rattle.once.proofs.none_twice.Statement.{statement}
 use Rattle.once.proofs.none_twice.Tie as tie

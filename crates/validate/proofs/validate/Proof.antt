@@ -1,15 +1,18 @@
 -- `validate` meets its contract: the conditions are tested in their order, and each gives what the next ones lean on.
-use mathlib.Core.Path.{_≡_, sym, _∙_}
+use mathlib.Core.Path.{_≡_, sym, ap, _∙_}
+use mathlib.Core.Bool.{true}
 use borrow.Author.Needs.{needs}
 use borrow.Author.Tests.{not-true, not-false, lt-ltb, le-ltb}
 use lib.ListN.{length, drop}
 use Rattle.rules.specs.Slices.{treeOf}
 use Rattle.rules.specs.Tree.{Tree}
-use Rattle.rules.specs.Check.{mergedBelow, lowest, checked}
-use Rattle.arena.specs.Trees.{Floats, Links}
+use Rattle.rules.specs.Check.{rooted, mergedBelow, lowest, checked}
+use Rattle.arena.specs.Trees.{AnyFloats, Floats, Links}
+use Rattle.tour.specs.declared.Walked.the-variants.{Whole}
+use Rattle.tour.specs.Walking.{whole, even}
 use Prim.Native.Nat.{ℕ, suc, _≤_, _<_}
 use mathlib.Core.List.{[]}
-use Rattle.validate.specs.Examined.{tested, examined, checked-is, fails, holds}
+use Rattle.validate.specs.Examined.{walkedOnce, tested, examined, checked-is, fails, holds}
 use Rattle.lists.specs.Lent.{ListsFit}
 use Rattle.validate.specs.Granted.{sized-links, sized-floats, sized-few, rooted-in, lent-binary64}
 use Rattle.validate.proofs.validate.Statement.{statement}
@@ -34,22 +37,22 @@ start-2 c = start-1 (c .before .before)
 abbrev start-3 : tie.Else3 → tie.Start
 start-3 c = start-2 (c .before .before)
 
-abbrev start-4 : tie.Else4 → tie.Start
-start-4 c = start-3 (c .before .before)
+abbrev start-4 : tie.After-known-told → tie.Start
+start-4 c = start-3 (c .before .before .before .before)
 
-abbrev start-5 : tie.Else5 → tie.Start
+abbrev start-5 : tie.Else4 → tie.Start
 start-5 c = start-4 (c .before .before)
 
-abbrev start-6 : tie.Else6 → tie.Start
+abbrev start-6 : tie.Else5 → tie.Start
 start-6 c = start-5 (c .before .before)
 
-abbrev start-7 : tie.Else7 → tie.Start
+abbrev start-7 : tie.Else6 → tie.Start
 start-7 c = start-6 (c .before .before)
 
 met-0 : (c : tie.After-shared-slice-known2) → Met 0 (c .before .before)
 unfolding examined
 met-0 c =
-    checked-is (c .before .before .args .s) (lent (c .before .before))
+    checked-is (c .before .before .args .s) (lent (c .before .before)) (c .before .before .pre .0 .most-few)
     (lent-binary64 (c .before .before .args .s) (c .before .before .args .n) (c .before .before .args .floats .now) (c .before .before .args .links .now) _
     (c .before .shared-slice-known .given))
 
@@ -66,21 +69,26 @@ met-3 : (c : tie.Else3) → Met 3 (start-3 c)
 unfolding tested
 met-3 c = holds 3 _ _ (met-2 (c .before .before)) (sym (c .before .lists-fit .ensures (start-3 c .args .floats .now)) ∙ not-false _ (c .if3 .left))
 
-met-4 : (c : tie.Else4) → Met 4 (start-4 c)
-unfolding tested
-met-4 c = holds 4 _ _ (met-3 (c .before .before)) (sym (c .before .hung .ensures (start-4 c .args .floats .now)) ∙ not-false _ (c .if4 .left))
+-- the walk that is whole
+walked : (c : tie.After-known-told) → walkedOnce (lent (start-4 c)) ≡ Whole (c .before .depths .given .0 .0)
+walked c = sym (c .before .before .before .walk-once .ensures (start-4 c .args .floats .now)) ∙ c .before .depths .given .1
 
-met-5 : (c : tie.Else5) → Met 5 (start-5 c)
-unfolding tested
-met-5 c = holds 5 _ _ (met-4 (c .before .before)) (sym (c .before .filled .ensures (start-5 c .args .floats .now)) ∙ not-false _ (c .if5 .left))
+met-4 : (c : tie.After-known-told) → Met 4 (start-4 c)
+unfolding tested whole
+met-4 c = holds 4 _ _ (met-3 (c .before .before .before .before)) (ap whole (walked c))
 
-met-6 : (c : tie.Else6) → Met 6 (start-6 c)
+met-5 : (c : tie.Else4) → Met 5 (start-5 c)
 unfolding tested
-met-6 c = holds 6 _ _ (met-5 (c .before .before)) (sym (c .before .forking .ensures (start-6 c .args .floats .now)) ∙ not-false _ (c .if6 .left))
+met-5 c = holds 5 _ _ (met-4 (c .before .before)) (sym (c .before .filled .ensures (start-5 c .args .floats .now)) ∙ not-false _ (c .if4 .left))
 
-met-7 : (c : tie.Else7) → Met 7 (start-7 c)
+met-6 : (c : tie.Else5) → Met 6 (start-6 c)
+unfolding tested even
+met-6 c = holds 6 _ _ (met-5 (c .before .before)) (ap even (walked (c .before .before .before .before)) ∙ sym (c .before .level .ensures) ∙ not-false _
+    (c .if5 .left))
+
+met-7 : (c : tie.Else6) → Met 7 (start-7 c)
 unfolding tested
-met-7 c = holds 7 _ _ (met-6 (c .before .before)) (sym (c .before .summed .ensures) ∙ not-false _ (c .if7 .left))
+met-7 c = holds 7 _ _ (met-6 (c .before .before)) (sym (c .before .summed .ensures) ∙ not-false _ (c .if6 .left))
 
 -- ---- what they give to the code after them
 
@@ -101,6 +109,9 @@ few c =
     let start = start-1 c in
     sized-few (start .args .s) (start .args .n) (start .args .floats .now) (start .args .links .now) (start .pre .0)
     (sym (c .before .sized .ensures (start .args .floats .now) (start .args .links .now)) ∙ not-false _ (c .if1 .left))
+
+rooted-so : (c : tie.Else2) → AnyFloats (start-2 c .args .s) (start-2 c .args .n) (start-2 c .args .links .now) (λ t. rooted t ≡ true)
+rooted-so c = λ fs. sym (c .before .rooted .ensures fs) ∙ not-false _ (c .if2 .left)
 
 root-in : (c : tie.Else2) → start-2 c .args .n .root < start-2 c .args .n .nodes
 root-in c =
@@ -132,53 +143,47 @@ unfolding tested
 returns-3 c = fails 3 _ _ (met-2 (c .before .before)) (sym (c .before .lists-fit .ensures ((start-2 (c .before .before)) .args .floats .now)) ∙ not-true _
     (c .if3 .taken))
 
-hung-requires : tie.Need-hung-requires
-hung-requires c κs = (links (c .before .before .before .before), listed c, few (c .before .before .before .before), root-in (c .before .before))
+walk-once-requires : tie.Need-walk-once-requires
+walk-once-requires c κs = (links (c .before .before .before .before), listed c, few (c .before .before .before .before), rooted-so (c .before .before))
 
 returns-4 : tie.Need-returns-4
-unfolding tested
-returns-4 c = fails 4 _ _ (met-3 (c .before .before)) (sym (c .before .hung .ensures ((start-3 (c .before .before)) .args .floats .now)) ∙ not-true _
-    (c .if4 .taken))
+unfolding tested whole
+returns-4 c = fails 4 _ _ (met-3 (c .before .before .before)) (ap whole (sym (c .before .before .walk-once .ensures
+    ((start-3 (c .before .before .before)) .args .floats .now)) ∙ c .enum-told .given .1))
 
 filled-requires : tie.Need-filled-requires
-filled-requires c κs = links (c .before .before .before .before .before .before)
+filled-requires c κs = links (c .before .before .before .before .before .before .before .before)
 
 returns-5 : tie.Need-returns-5
 unfolding tested
 returns-5 c = fails 5 _ _ (met-4 (c .before .before)) (sym (c .before .filled .ensures ((start-4 (c .before .before)) .args .floats .now)) ∙ not-true _
-    (c .if5 .taken))
-
-forking-requires : tie.Need-forking-requires
-forking-requires c κs = (links (c .before .before .before .before .before .before .before .before), root-in (c .before .before .before .before .before .before))
+    (c .if4 .taken))
 
 returns-6 : tie.Need-returns-6
-unfolding tested
-returns-6 c = fails 6 _ _ (met-5 (c .before .before)) (sym (c .before .forking .ensures ((start-5 (c .before .before)) .args .floats .now)) ∙ not-true _
-    (c .if6 .taken))
+unfolding tested even
+returns-6 c = fails 6 _ _ (met-5 (c .before .before)) (ap even (walked (c .before .before .before .before)) ∙ sym (c .before .level .ensures) ∙ not-true _
+    (c .if5 .taken))
 
 summed-requires : tie.Need-summed-requires
-summed-requires c κs = (
-  floats (c .before .before .before .before .before .before .before .before .before .before),
-  links
-      (c .before .before .before .before .before .before .before .before .before .before),
-  listed (c .before .before .before .before .before .before),
-  root-in (c .before .before .before .before .before .before .before .before),
-)
+summed-requires c κs =
+    let c3 = c .before .before .before .before .before .before .before .before in
+    let c1 = c3 .before .before .before .before in
+    (floats c1, links c1, listed c3, root-in (c3 .before .before))
 
 returns-7 : tie.Need-returns-7
 unfolding tested
-returns-7 c = fails 7 _ _ (met-6 (c .before .before)) (sym (c .before .summed .ensures) ∙ not-true _ (c .if7 .taken))
+returns-7 c = fails 7 _ _ (met-6 (c .before .before)) (sym (c .before .summed .ensures) ∙ not-true _ (c .if6 .taken))
 
 returns-8 : tie.Need-returns-8
 unfolding tested mergedBelow treeOf
 returns-8 c = let start = start-7 (c .before .before .before) in fails 8 _ _ (met-7 (c .before .before .before))
-    (le-ltb (start .args .n .running .merged) (start .args .s .«max_leaves») (c .if8 .taken))
+    (le-ltb (start .args .n .running .merged) (start .args .s .«max_leaves») (c .if7 .taken))
 
 returns-9 : tie.Need-returns-9
 unfolding tested mergedBelow treeOf lowest
 returns-9 c = let start = start-7 (c .before .before .before) in sym
-    (holds 8 _ [] (met-7 (c .before .before .before)) (lt-ltb (start .args .n .running .merged) (start .args .s .«max_leaves») (c .if8 .left)))
+    (holds 8 _ [] (met-7 (c .before .before .before)) (lt-ltb (start .args .n .running .merged) (start .args .s .«max_leaves») (c .if7 .left)))
 
 pub validate-spec : {M : Type 1} → statement M
-validate-spec = tie.close (tie.spec (λ c κs. search needs) returns rooted-requires returns-2 lists-fit-requires returns-3 hung-requires returns-4
-    filled-requires returns-5 forking-requires returns-6 summed-requires returns-7 returns-8 returns-9)
+validate-spec = tie.close (tie.spec (λ c κs. search needs) returns rooted-requires returns-2 lists-fit-requires returns-3 walk-once-requires
+    (λ c. search needs) (λ c. search needs) returns-4 filled-requires returns-5 (λ c κs. search needs) returns-6 summed-requires returns-7 returns-8 returns-9)

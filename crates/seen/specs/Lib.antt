@@ -1,0 +1,2 @@
+-- A set of numbers below 256.
+pub mod Sets

@@ -39,12 +39,9 @@ Inner s n ls i = AnyFloats s n ls (λ t. nodeAt t i .leaf ≡ false)
 abbrev pub Leaf : Settings → Counters → List ℕ → ℕ → Type 0
 Leaf s n ls i = AnyFloats s n ls (λ t. nodeAt t i .leaf ≡ true)
 
--- every entry weighs a count, and every node does
+-- every entry weighs a count
 abbrev pub EntriesCount : Settings → Counters → List Float → Type 0
 EntriesCount s n fs = AnyLinks s n fs (λ t. every (λ e. isCount (e .weight)) (t .entries) ≡ true)
-
-abbrev pub NodesCount : Settings → Counters → List Float → Type 0
-NodesCount s n fs = AnyLinks s n fs (λ t. every (λ m. isCount (m .summary .weight)) (t .nodes) ≡ true)
 
 -- the entries that a node lists
 unfoldable pub leafList : Node → List ℕ

@@ -8,7 +8,7 @@ use native.Mathlib.Numerals.{add-one}
 use native.Mathlib.Omega.{arith}
 use lib.Dec.{T}
 use lib.Ieee.Bits.{is-true}
-use lib.ListN.{length, getD}
+use lib.ListN.{length, getD, drop}
 use Rattle.feature.specs.declared.Summary.{Summary}
 use Rattle.rules.specs.Lists.{every, upFrom, occurs}
 use Rattle.rules.specs.Check.{totalOf}
@@ -88,6 +88,13 @@ module _ {A : Type 0} (f : A → Bool) (d : A) where
 
   pub placed : (xs : List A) {n : ℕ} → n ≡ length xs → every (λ k. f (getD xs k d)) (upFrom n 0) ≡ every f xs
   placed xs e = rw e (sym (every-places xs))
+
+-- ---- places
+
+pub drop-at : (l : List ℕ) (k : ℕ) → k < length l → drop k l ≡ getD l k 0 ∷ drop (suc k) l
+drop-at [] k h = absurd (omega arith)
+drop-at (x ∷ l) zero h = refl
+drop-at (x ∷ l) (suc k) h = drop-at l k (omega arith)
 
 -- ---- sums
 

@@ -20,9 +20,10 @@ use Rattle.rules.specs.Check.{orphan, rooted, listFits}
 use Rattle.arena.specs.Trees.{count-nodes}
 use Rattle.laws.specs.Check.Accept.{orphan-none}
 use Rattle.rules.specs.Tree.{Tree, nodeAt}
+use Rattle.lists.specs.Loops.{drop-at}
 use Rattle.tour.specs.Sums.{kids}
 use Rattle.tour.specs.Walking.{noDepths, meeting, placeAfter, upOf, downOf, stepOf, backOf, onward, walkFrom, walkOf}
-use Rattle.tour.specs.Steps.{drop-at, step-in, step-done, step-down, step-up, kids-list}
+use Rattle.tour.specs.Steps.{step-in, step-done, step-down, step-up, kids-list}
 use Rattle.tour.specs.Whole.{down-in}
 use Rattle.tour.specs.declared.Step.{Step}
 use Rattle.tour.specs.declared.Step.the-variants.{Down, Up, End, Astray}

@@ -8,7 +8,7 @@ use mathlib.Core.Option.{Option, none, some}
 use native.Mathlib.Omega.{arith}
 use borrow.Author.Tests.{eq-eqb, ne-eqb, lt-ltb, le-ltb}
 use lib.Dec.{T, eqb}
-use lib.ListN.{length, getD, drop}
+use lib.ListN.{length, getD}
 use Rattle.rules.specs.Lists.{occurs}
 use Rattle.rules.specs.Tree.{Tree, nodeAt, blankNode}
 use Rattle.rules.specs.Check.{names}
@@ -41,11 +41,6 @@ pub up-same : {p j q k : ℕ} → Up p j ≡ Up q k → (p ≡ q) × (j ≡ k)
 up-same e = (cc, cc)
 
 -- ---- places of a list
-
-pub drop-at : (l : List ℕ) (k : ℕ) → k < length l → drop k l ≡ getD l k 0 ∷ drop (suc k) l
-drop-at [] k h = absurd (omega arith)
-drop-at (x ∷ l) zero h = refl
-drop-at (x ∷ l) (suc k) h = drop-at l k (omega arith)
 
 -- not after the place where it stands
 pub after-most : (c : ℕ) (l : List ℕ) (k : ℕ) → k < length l → getD l k 0 ≡ c → placeAfter c l ≤ suc k

@@ -10,9 +10,10 @@ use Rattle.rules.specs.Lists.{occurs}
 use Rattle.rules.specs.Tree.{Tree, nodeAt}
 use Rattle.counting.specs.Count.{same?, lt?, is-other}
 use Rattle.counting.specs.Sums.{over, occurs-cons}
+use Rattle.lists.specs.Loops.{drop-at}
 use Rattle.tour.specs.Sums.{kids, beneath}
 use Rattle.tour.specs.Walking.{placeAfter, stepOf}
-use Rattle.tour.specs.Steps.{up-end, down-up, up-same, drop-at, after-most, step-down, up-is, end-done, up-done, kids-inner, kids-list}
+use Rattle.tour.specs.Steps.{up-end, down-up, up-same, after-most, step-down, up-is, end-done, up-done, kids-inner, kids-list}
 use Rattle.tour.specs.Ending.{tally, Ends, tally-down, tally-up, ends-once}
 use Rattle.tour.specs.declared.Step.the-variants.{Down, Up}
 

@@ -73,7 +73,7 @@ checked-is s t room lent =
     onward 4 (linked t) (whole (walkedOnce t)) _ _ (linked-walked s t h2 h3) λ h4.
     onward 5 (filled t) (filled t) _ _ refl λ h5.
     onward 6 (level t) (even (walkedOnce t)) _ _ (level-once s t h2 h3 (let q = few h1 in omega arith) h4 h5) λ h6.
-    onward 7 (weighed t) (summed t) _ _ (weighed-is s t h2 h3 h4 h5 h6 lent (few h1)) λ h7. refl
+    onward 7 (weighed t) (summed t) _ _ (weighed-is s t h2 h3 h4 h5 h6 lent) λ h7. refl
   where
     few : T (sized s t) → length (t .entries) ≤ s .«max_leaves»
     few h =

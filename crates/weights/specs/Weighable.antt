@@ -1,14 +1,16 @@
--- Condition 7's sums: what they lean on, and that every weight they add is a count.
-use Prim.Native.Nat.{ℕ, _<_}
-use mathlib.Core.Path.{_≡_, refl, ap, _∙_}
+-- Condition 7's sums: what they lean on, and how they go on place by place.
+use Prim.Native.Nat.{ℕ, suc, _+_, _≤_, _<_}
+use mathlib.Core.Path.{_≡_, refl, sym, ap, _∙_}
 use mathlib.Core.Bool.{Bool, true, false, _&&_}
-use mathlib.Core.List.{List}
+use mathlib.Core.List.{List, map}
+use native.Mathlib.Numerals.{add-one}
 use native.Mathlib.Omega.{arith}
 use lib.Ieee.{Float, le, eq, toUnsigned}
 use lib.Ieee.Bits.{is-true}
 use lib.Ieee.Fits.{and-l, and-r}
-use lib.ListN.{length, getD}
-use Rattle.binary64.specs.Operators.{f1, f2^53}
+use lib.ListN.{length, getD, drop, drop-of-length-le}
+use Rattle.binary64.specs.Operators.{_⊕_, f0, f1, f2^53}
+use Rattle.binary64.specs.Sums.{sumFrom}
 use Rattle.binary64.specs.Whole.{whole}
 use Rattle.binary64.specs.Counts.{isCount, told}
 use Rattle.binary64.specs.declared.Count.the-variants.{Rows, NotWhole}
@@ -16,26 +18,25 @@ use Rattle.binary64.specs.Range.{Ranged, ranged}
 use Rattle.feature.specs.Summaries.{blank}
 use Rattle.head.specs.declared.Settings.{Settings}
 use Rattle.head.specs.declared.Counters.{Counters}
-use Rattle.rules.specs.Tree.{Tree, blankNode, nodeAt, entryAt, child, rowCount}
+use Rattle.rules.specs.Tree.{Tree, nodeAt, entryAt, child, rowCount}
 use Rattle.rules.specs.Check.{known, totalOf}
 use Rattle.rules.specs.Slices.{treeOf}
 use Rattle.arena.specs.Trees.{Floats, Links, ChildIn, count-nodes, count-entries}
 use Rattle.counting.specs.Sums.{sumTo}
 use Rattle.laws.specs.Check.Passing.{entries-sum}
-use Rattle.lists.specs.Lent.{ListsFit, EntriesCount, NodesCount, holds, listed-in}
+use Rattle.lists.specs.Lent.{ListsFit, EntriesCount, holds, listed-in}
+use Rattle.lists.specs.Loops.{drop-at}
 use Rattle.counting.specs.Tests.{every-at}
 
--- the rows in what place k of node i's list names
-unfoldable pub rowsAt : Tree → ℕ → ℕ → ℕ
-rowsAt t i k = rowCount (child t (nodeAt t i .leaf) (getD (nodeAt t i .list) k 0))
+-- the weight of what place k of node i's list names
+unfoldable pub weightAt : Tree → ℕ → ℕ → Float
+weightAt t i k = child t (nodeAt t i .leaf) (getD (nodeAt t i .list) k 0) .weight
 
--- what the sums of condition 7 lean on: room, lists that name what is there, and weights that are counts
+-- what the sums of condition 7 lean on: room, and lists that name what is there
 pub record Weighable (s : Settings) (n : Counters) (fs : List Float) (ls : List ℕ) : Type 0 where
   pub floats : Floats s n (length fs)
   pub links : Links s n (length ls)
   pub listed : ListsFit s n ls
-  pub entries : EntriesCount s n fs
-  pub nodes : NodesCount s n fs
 
 module _ (s : Settings) (n : Counters) (fs : List Float) (ls : List ℕ) where
   pub entry-counts : EntriesCount s n fs → (e : ℕ) → e < n .entries → isCount (entryAt (treeOf s n fs ls) e .weight) ≡ true
@@ -44,30 +45,33 @@ module _ (s : Settings) (n : Counters) (fs : List Float) (ls : List ℕ) where
       let t = treeOf s n fs ls in
       is-true (isCount (entryAt t e .weight)) (every-at (λ x. isCount (x .weight)) blank (t .entries) (holds (h ls)) e (rw (count-entries s n fs ls) q))
 
-  pub node-counts : NodesCount s n fs → (i : ℕ) → i < n .nodes → isCount (nodeAt (treeOf s n fs ls) i .summary .weight) ≡ true
-  unfolding nodeAt
-  node-counts h i q =
-      let t = treeOf s n fs ls in
-      is-true (isCount (nodeAt t i .summary .weight))
-      (every-at (λ m. isCount (m .summary .weight)) blankNode (t .nodes) (holds (h ls)) i (rw (count-nodes s n fs ls) q))
-
   child-there : (b : Bool) (x : ℕ) → x < known (treeOf s n fs ls) b → ChildIn n b x
   unfolding known ChildIn
   child-there true x h = rw (count-entries s n fs ls) at h
   child-there false x h = rw (count-nodes s n fs ls) at h
 
-  child-weighs : EntriesCount s n fs → NodesCount s n fs → (b : Bool) (x : ℕ) → ChildIn n b x → isCount (child (treeOf s n fs ls) b x .weight) ≡ true
-  unfolding ChildIn child
-  child-weighs e m true x h = entry-counts e x h
-  child-weighs e m false x h = node-counts m x h
+  -- what place k of node i's list names is there
+  pub child-in : Weighable s n fs ls → (i k : ℕ) → i < n .nodes → k < length (nodeAt (treeOf s n fs ls) i .list)
+      → ChildIn n (nodeAt (treeOf s n fs ls) i .leaf) (getD (nodeAt (treeOf s n fs ls) i .list) k 0)
+  child-in w i k here place = child-there _ _ (listed-in s (treeOf s n fs ls) (w .listed fs) i k (rw (count-nodes s n fs ls) here) place)
 
-  module _ (w : Weighable s n fs ls) (i k : ℕ) (here : i < n .nodes) (place : k < length (nodeAt (treeOf s n fs ls) i .list)) where
-    -- what place k of node i's list names is there, and weighs a count
-    pub child-in : ChildIn n (nodeAt (treeOf s n fs ls) i .leaf) (getD (nodeAt (treeOf s n fs ls) i .list) k 0)
-    child-in = child-there _ _ (listed-in s (treeOf s n fs ls) (w .listed fs) i k (rw (count-nodes s n fs ls) here) place)
+-- ---- a sum place by place
 
-    pub child-counts : isCount (child (treeOf s n fs ls) (nodeAt (treeOf s n fs ls) i .leaf) (getD (nodeAt (treeOf s n fs ls) i .list) k 0) .weight) ≡ true
-    child-counts = child-weighs (w .entries) (w .nodes) _ _ child-in
+-- k places are summed in x, and the rest is to come
+abbrev pub Summing : (ℕ → Float) → List ℕ → Float → ℕ → Type 0
+Summing w l x k = sumFrom x (map w (drop k l)) ≡ sumFrom f0 (map w l)
+
+module _ (w : ℕ → Float) (l : List ℕ) where
+  pub sum-on : (x : Float) (k : ℕ) {y : Float} → k < length l → Summing w l x k → y ≡ w (getD l k 0) → Summing w l (x ⊕ y) (k + 1)
+  unfolding sumFrom
+  sum-on x k {y} h e q =
+      let a : sumFrom x (map w (drop k l)) ≡ sumFrom (x ⊕ y) (map w (drop (suc k) l)) =
+      ap (λ z. sumFrom x (map w z)) (drop-at l k h) ∙ ap (λ z. sumFrom (x ⊕ z) (map w (drop (suc k) l))) (sym q) in
+      ap (λ j. sumFrom (x ⊕ y) (map w (drop j l))) (add-one k) ∙ sym a ∙ e
+
+  pub sum-done : (x : Float) (k : ℕ) → length l ≤ k → Summing w l x k → x ≡ sumFrom f0 (map w l)
+  unfolding sumFrom
+  sum-done x k h e = sym (ap (λ z. sumFrom x (map w z)) (drop-of-length-le l {i = k} h)) ∙ e
 
 -- the rows of a weight that is a count
 pub count-ranged : (w : Float) → isCount w ≡ true → Ranged w

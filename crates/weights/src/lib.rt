@@ -1,18 +1,18 @@
-// Condition 7: entry weights are counts, and in whole numbers each node weighs what its list weighs.
+// Condition 7: entry weights are counts, and each node weighs what its list weighs.
 ghost use mathlib.Core.Path.{_≡_};
 ghost use mathlib.Core.Bool.{true};
 ghost use Prim.Native.Nat.{_≤_, _<_};
 ghost use lib.Ieee.{toUnsigned};
 ghost use lib.ListN.{length};
 ghost use Rattle.binary64.specs.Counts.{isCount};
-ghost use Rattle.rules.specs.Lists.{every, upFrom};
+ghost use Rattle.rules.specs.Lists.{every};
 ghost use Rattle.rules.specs.Tree.{nodeAt};
 ghost use Rattle.rules.specs.Check.{totalOf};
 ghost use Rattle.rules.specs.Slices.{treeOf};
 ghost use Rattle.arena.specs.Trees.{AnyFloats, AnyLinks, Floats, Links};
-ghost use Rattle.weights.specs.Adding.{rowsListed, addsUp, nodesAddUp, weighsNothing, summed};
+ghost use Rattle.weights.specs.Adding.{weightListed, addsUp, nodesAddUp, weighsNothing, summed};
 ghost use Rattle.lists.specs.Lent.{ListsFit, EntriesCount};
-ghost use Rattle.weights.specs.Weighable.{Weighable, rowsAt};
+ghost use Rattle.weights.specs.Weighable.{Weighable, weightAt};
 use arena::children;
 use arena::entries;
 use arena::links;
@@ -69,44 +69,29 @@ pub fn total(s: Settings, n: Counters, floats: &[f64]) -> u64
     rows
 }
 
-// Whether every node weighs a count.
-fn nodes_count(s: Settings, n: Counters, floats: &[f64]) -> bool
-    requires { ⌜ Floats s n (length (now floats)) ⌝ }
-    ensures { λ r. ⌜ AnyLinks s n (now (floats .entry)) (λ t. r ≡ every (λ m. isCount (m .summary .weight)) (t .nodes)) ⌝ }
-{
-    let mut i = 0;
-    while i < n.nodes {
-        if !is_count(nodes::weight(s, n, floats, i)) {
-            return false;
-        }
-        i += 1;
-    }
-    true
-}
-
-// The rows in what place k of node i's list names.
-fn rows_at(s: Settings, n: Counters, floats: &[f64], links: &[u32], i: usize, k: usize) -> u64
+// The weight of what place k of node i's list names.
+fn weight_at(s: Settings, n: Counters, floats: &[f64], links: &[u32], i: usize, k: usize) -> f64
     requires { ⌜ Weighable s n (now floats) (now links) × (i < n .nodes) × AnyFloats s n (now links) (λ t. k < length (nodeAt t i .list)) ⌝ }
-    ensures { λ r. ⌜ (r ≡ rowsAt (treeOf s n (now (floats .entry)) (now (links .entry))) i k) × (r ≤ 9007199254740992) ⌝ }
+    ensures { λ r. ⌜ r ≡ weightAt (treeOf s n (now (floats .entry)) (now (links .entry))) i k ⌝ }
 {
     let leaf = links::is_leaf(s, n, links, i);
     let c = links::list_at(s, n, links, i, k);
-    rows_of(children::weight(s, n, floats, leaf, c))
+    children::weight(s, n, floats, leaf, c)
 }
 
-// The rows in what node i lists.
-fn rows_listed(s: Settings, n: Counters, floats: &[f64], links: &[u32], i: usize) -> u64
+// What node i's list weighs, summed from the first to the last.
+fn weight_listed(s: Settings, n: Counters, floats: &[f64], links: &[u32], i: usize) -> f64
     requires { ⌜ Weighable s n (now floats) (now links) × (i < n .nodes) ⌝ }
-    ensures { λ r. ⌜ r ≡ rowsListed (treeOf s n (now (floats .entry)) (now (links .entry))) i ⌝ }
+    ensures { λ r. ⌜ r ≡ weightListed (treeOf s n (now (floats .entry)) (now (links .entry))) i ⌝ }
 {
     let len = links::list_len(s, n, links, i);
-    let mut rows = 0;
+    let mut sum = 0.0;
     let mut k = 0;
     while k < len {
-        rows += rows_at(s, n, floats, links, i, k);
+        sum = sum + weight_at(s, n, floats, links, i, k);
         k += 1;
     }
-    rows
+    sum
 }
 
 // Whether node i weighs what its list weighs.
@@ -114,13 +99,13 @@ fn adds_up(s: Settings, n: Counters, floats: &[f64], links: &[u32], i: usize) ->
     requires { ⌜ Weighable s n (now floats) (now links) × (i < n .nodes) ⌝ }
     ensures { λ r. ⌜ r ≡ addsUp (treeOf s n (now (floats .entry)) (now (links .entry))) i ⌝ }
 {
-    rows_of(nodes::weight(s, n, floats, i)) == rows_listed(s, n, floats, links, i)
+    weight_listed(s, n, floats, links, i) == nodes::weight(s, n, floats, i)
 }
 
 // Whether every node weighs what its list weighs.
-fn all_add_up(s: Settings, n: Counters, floats: &[f64], links: &[u32]) -> bool
+fn nodes_add_up(s: Settings, n: Counters, floats: &[f64], links: &[u32]) -> bool
     requires { ⌜ Weighable s n (now floats) (now links) ⌝ }
-    ensures { λ r. ⌜ r ≡ every (addsUp (treeOf s n (now (floats .entry)) (now (links .entry)))) (upFrom (n .nodes) 0) ⌝ }
+    ensures { λ r. ⌜ r ≡ nodesAddUp (treeOf s n (now (floats .entry)) (now (links .entry))) ⌝ }
 {
     let mut i = 0;
     while i < n.nodes {
@@ -130,17 +115,6 @@ fn all_add_up(s: Settings, n: Counters, floats: &[f64], links: &[u32]) -> bool
         i += 1;
     }
     true
-}
-
-// Whether every node weighs a count, and what its list weighs.
-fn nodes_add_up(s: Settings, n: Counters, floats: &[f64], links: &[u32]) -> bool
-    requires { ⌜ Floats s n (length (now floats)) × Links s n (length (now links)) × ListsFit s n (now links) × EntriesCount s n (now floats) ⌝ }
-    ensures { λ r. ⌜ r ≡ nodesAddUp (treeOf s n (now (floats .entry)) (now (links .entry))) ⌝ }
-{
-    if !nodes_count(s, n, floats) {
-        return false;
-    }
-    all_add_up(s, n, floats, links)
 }
 
 // Whether the root weighs 0; −0.0 counts as 0.

@@ -1,45 +1,49 @@
--- `adding::nodes_add_up` meets its contract: the weights are counts before any are added.
-use mathlib.Core.Path.{sym, _∙_}
+-- `nodes_add_up` meets its contract: every node passed adds up.
+use Prim.Native.Nat.{_-_, _≤_}
+use native.Mathlib.Omega.{arith}
+use borrow.Author.Needs.{needs}
 use borrow.Author.Tests.{not-true, not-false}
+use Rattle.rules.specs.Slices.{treeOf}
 use Rattle.arena.specs.Trees.{count-nodes}
-use Rattle.weights.specs.Adding.{nodesAddUp}
+use Rattle.weights.specs.Adding.{addsUp, nodesAddUp}
+use Rattle.lists.specs.Loops.{Passed, passed-none, passed-more, passed-all, fails-at}
 use Rattle.weights.proofs.nodes_add_up.Statement.{statement}
 use Rattle.weights.proofs.nodes_add_up.Tie as tie
 
-nodes-count-requires : tie.Need-nodes-count-requires
-nodes-count-requires c κs =
-    let start = c .before .before in
-    start .pre .0
+abbrev Inv-loop : tie.InvT-loop
+Inv-loop s n floats links i₀ i = (i ≤ n .nodes) × Passed (addsUp (treeOf s n floats links)) i
 
-returns : tie.Need-returns
+abbrev μ-loop : tie.MeasureT-loop
+μ-loop s n floats links i₀ i = n .nodes - i
+
+loop-holds : tie.Need-loop-holds Inv-loop μ-loop
+loop-holds c = (omega arith, passed-none _)
+
+adds-up-requires : tie.Need-adds-up-requires Inv-loop μ-loop
+adds-up-requires c κs =
+    let start = c .before .before .before .before .before in
+    (start .pre, c .if1 .taken)
+
+returns : tie.Need-returns Inv-loop μ-loop
 unfolding nodesAddUp
 returns c =
-    let start = c .before .before .before .before in
-    rw (← c .before .nodes-count .ensures (start .args .links .now), not-true (c .before .nodes-count .result) (c .if1 .taken))
+    let start = c .before .before .before .before .before .before .before in
+    let loop = c .before .before .before .before .loop in
+    let if1 = c .before .before .if1 in
+    rw (count-nodes (start .args .s) (start .args .n) (start .args .floats .now) (start .args .links .now))
+    (fails-at _ _ (loop .i) (if1 .taken) (c .before .adds-up .ensures) (not-true _ (c .if2 .taken)))
 
-all-add-up-requires : tie.Need-all-add-up-requires
-all-add-up-requires c κs =
-    let start = c .before .before .before .before in
-    record {
-      floats = start .pre .0;
-      links = start .pre .1;
-      listed = start .pre .2;
-      entries = start .pre .3;
-      nodes = λ ls. sym (c .before .nodes-count .ensures ls) ∙ not-false _ (c .if1 .left);
-    }
+loop-again : tie.Need-loop-again Inv-loop μ-loop
+loop-again c =
+    let loop = c .before .before .before .before .loop in
+    (omega arith, passed-more _ (loop .i) (loop .inv .1) (c .before .adds-up .ensures) (not-false _ (c .if2 .left)))
 
-returns-2 : tie.Need-returns-2
+returns-2 : tie.Need-returns-2 Inv-loop μ-loop
 unfolding nodesAddUp
 returns-2 c =
     let start = c .before .before .before .before .before in
-    let nodes-count = c .before .before .nodes-count in
-    rw (
-      ← nodes-count .ensures (start .args .links .now),
-      not-false (nodes-count .result) (c .before .if1 .left),
-      count-nodes (start .args .s)
-          (start .args .n) (start .args .floats .now) (start .args .links .now),
-    )
-    (c .all-add-up .ensures)
+    let loop = c .before .before .loop in
+    rw (count-nodes (start .args .s) (start .args .n) (start .args .floats .now) (start .args .links .now)) (passed-all _ _ (loop .i) (loop .inv .1) (c .if1 .left))
 
 pub nodes-add-up-spec : {M : Type 1} → statement M
-nodes-add-up-spec = tie.close (tie.spec nodes-count-requires returns all-add-up-requires returns-2)
+nodes-add-up-spec = tie.close (tie.spec Inv-loop μ-loop loop-holds adds-up-requires returns (λ c. search needs) (λ c. search needs) loop-again returns-2)

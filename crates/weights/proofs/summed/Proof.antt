@@ -62,9 +62,7 @@ returns-3 c =
 nodes-add-up-requires : tie.Need-nodes-add-up-requires
 nodes-add-up-requires c κs =
     let start = c .before .before .before .before .before .before .before .before in
-    let entries-count = c .before .before .before .before .before .entries-count in
-    let if1 = c .before .before .before .before .if1 in
-    (start .pre .0, start .pre .1, start .pre .2, λ ls. sym (entries-count .ensures ls) ∙ not-false _ (if1 .left))
+    record { floats = start .pre .0; links = start .pre .1; listed = start .pre .2 }
 
 returns-4 : tie.Need-returns-4
 unfolding summed

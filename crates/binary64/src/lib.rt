@@ -1,4 +1,6 @@
 // Floats as the port needs them: counts of rows, bits in and out, and what Rust's f64 has methods for.
+#![tactic(auto)]
+
 ghost use Rattle.std.specs.Prelude.{◌≡◌, from_bits, is_nan, to_bits};
 ghost use Rattle.std.specs.Float.{binary64};
 ghost use Rattle.std.specs.Float.Ieee.Scale.{finite};
@@ -6,7 +8,7 @@ ghost use Rattle.binary64.specs.Values.{absolute, ranked, same_value};
 ghost use Rattle.binary64.specs.Counts.{count_of};
 
 // What a weight says of the rows behind it.
-#[derive(Drop)]
+#[derive(Clone, Copy)]
 pub enum Count {
     // It is this whole number, from 1 to 2^53.
     Rows(u64),

@@ -1,10 +1,11 @@
 // Heads and answers in the plain numbers that C and Rust can pass.
+#![tactic(auto)]
 pub mod given;
 pub mod version;
 
 // A head as a caller has it. Nothing in it is trusted.
 #[repr(C)]
-#[derive(Drop)]
+#[derive(Clone, Copy)]
 pub struct HeadNumbers {
     pub dim: u64,
     pub branching: u64,
@@ -23,7 +24,7 @@ pub struct HeadNumbers {
 
 // What a call answers: 0 for accepted, or the refusal's number and the values that come with it, 0 where there is none.
 #[repr(C)]
-#[derive(Drop)]
+#[derive(Clone, Copy)]
 pub struct AnswerNumbers {
     pub first: u64,
     pub second: u64,

@@ -12,7 +12,7 @@ use refusals::lent;
 use rules::Places;
 
 // What the listing of entries gives back: the answer, and where the entries are read.
-#[derive(Drop)]
+#[derive(Clone, Copy)]
 pub struct Listing {
     pub answer: Answer,
     pub places: Places,

@@ -1,1 +1,2 @@
 // Facts of lists, counts and sums: theorems only, no code.
+#![tactic(auto)]

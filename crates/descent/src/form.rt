@@ -10,7 +10,7 @@ use feature::Summary;
 use head::{Counters, Settings};
 use stretch::slot;
 
-#[derive(Drop)]
+#[derive(Clone, Copy)]
 pub enum Form {
     Row,
     Slot,

@@ -1,5 +1,6 @@
 // Six distances from a summary to a row and between two summaries, by the numbers that they are made of. Euclidean is squared; no
 // square root is taken.
+#![tactic(auto)]
 ghost use Rattle.std.specs.Prelude.{◌≡◌, ◌≤◌, length};
 ghost use Rattle.kernels.specs.Channels.{at, sum_to};
 ghost use Rattle.feature.specs.Summaries.{Dim};
@@ -7,7 +8,7 @@ ghost use Rattle.distance.specs.Distances.{gap_of, ssd_of, increase_of, to_row, 
 
 use feature::Feature;
 
-#[derive(Drop)]
+#[derive(Clone, Copy)]
 pub enum Distance {
     CentroidEuclidean,
     CentroidManhattan,

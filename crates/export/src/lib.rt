@@ -1,4 +1,5 @@
 // The public calls for C and Rust: plain numbers, structs of numbers and lent slices in, the same out.
+#![tactic(auto)]
 pub mod change;
 pub mod given;
 pub mod look;
@@ -9,7 +10,7 @@ use boundary::{AnswerNumbers, HeadNumbers};
 
 // What a call that changes the tree gives back.
 #[repr(C)]
-#[derive(Drop)]
+#[derive(Clone, Copy)]
 pub struct OutcomeNumbers {
     pub head: HeadNumbers,
     pub answer: AnswerNumbers,
@@ -17,7 +18,7 @@ pub struct OutcomeNumbers {
 
 // What a listing gives back: the answer, and where the entries stand in the floats.
 #[repr(C)]
-#[derive(Drop)]
+#[derive(Clone, Copy)]
 pub struct ListingNumbers {
     pub answer: AnswerNumbers,
     pub entries: u64,

@@ -1,18 +1,19 @@
 // A summary of rows: how many, their mean, and their squared deviation from it.
+#![tactic(auto)]
 ghost use Rattle.std.specs.Prelude.{◌≡◌, ◌≤◌, length};
 ghost use Rattle.kernels.specs.Channels.{up_to};
 ghost use Rattle.feature.specs.Summaries.{Dim, slots_of, blank};
 ghost use Rattle.feature.specs.Steps.{moved_at, added_at, both_at, deviated, pushed, blended, merged};
 
 // How deviation is kept: one number for all channels, or one a channel.
-#[derive(Drop)]
+#[derive(Clone, Copy)]
 pub enum Feature {
     Spherical,
     Diagonal,
 }
 
 // Channels past dim, and Spherical's deviations past the first, are 0.
-#[derive(Drop)]
+#[derive(Clone, Copy)]
 pub struct Summary {
     pub weight: f64,
     pub mean: [f64; 8],

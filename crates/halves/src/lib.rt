@@ -1,4 +1,5 @@
 // The two groups that a split makes of a list.
+#![tactic(auto)]
 pub mod seeds;
 
 ghost use Rattle.std.specs.Prelude.{◌≡◌, map, ◌<◌, ◌≤◌, length, get_or};
@@ -13,7 +14,7 @@ use arena::children;
 use head::{Counters, Settings};
 
 // The first `ones` of one, and the first `twos` of two.
-#[derive(Drop)]
+#[derive(Clone, Copy)]
 pub struct Halves {
     pub one: [u32; 17],
     pub ones: usize,

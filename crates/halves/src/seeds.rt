@@ -10,7 +10,7 @@ use arena::children;
 use head::{Counters, Settings};
 
 // The places of two in a list, and the distance between them.
-#[derive(Drop)]
+#[derive(Clone, Copy)]
 pub struct Seeds {
     pub a: usize,
     pub b: usize,

@@ -1,4 +1,5 @@
 // The head that a caller lends by value, the sizes that its settings ask for, and the refusals.
+#![tactic(auto)]
 pub mod changes;
 pub mod limits;
 pub mod refusal;
@@ -12,7 +13,7 @@ use feature::Feature;
 
 // What runs along with a tree's nodes and entries: the absorption threshold, the rebuilds, and the entries merged away
 // since the nodes were last built anew.
-#[derive(Drop)]
+#[derive(Clone, Copy)]
 pub struct Running {
     pub threshold: f64,
     pub rebuilds: u64,
@@ -20,7 +21,7 @@ pub struct Running {
 }
 
 // What a tree counts as it grows: its nodes and entries, which node is the root, and what runs along with them.
-#[derive(Drop)]
+#[derive(Clone, Copy)]
 pub struct Counters {
     pub nodes: usize,
     pub entries: usize,
@@ -29,7 +30,7 @@ pub struct Counters {
 }
 
 // The settings as the caller has them, numbers that may be outside their limits, and the counters.
-#[derive(Drop)]
+#[derive(Clone, Copy)]
 pub struct Head {
     pub dim: usize,
     pub branching: usize,
@@ -42,7 +43,7 @@ pub struct Head {
 }
 
 // The settings inside the library, each within its limits.
-#[derive(Drop)]
+#[derive(Clone, Copy)]
 pub struct Settings {
     pub dim: usize,
     pub branching: usize,

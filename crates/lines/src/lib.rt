@@ -1,4 +1,5 @@
 // Byte by byte and line by line.
+#![tactic(auto)]
 ghost use Rattle.std.specs.Prelude.{◌≡◌, [], ◌∷◌, ◌+◌, ◌-◌, ◌≤◌, ◌<◌, length, take};
 ghost use Rattle.lines.specs.declared.Stage.TheVariants as Stages;
 ghost use Rattle.lines.specs.Runs.{Room, Stands, Reading, LineRead, printed_of, printed, Reads, bad_stage, bad_run};
@@ -15,7 +16,7 @@ use work::Work;
 use work::change::change;
 
 // What is being read.
-#[derive(Drop)]
+#[derive(Clone, Copy)]
 pub enum Stage {
     // Line 1.
     First,
@@ -27,7 +28,7 @@ pub enum Stage {
 
 // A run between two chunks: the head of the tree in the lent slices, the number of the line that is being read, or of the bad
 // one, and how many of its bytes stand in the lent line.
-#[derive(Drop)]
+#[derive(Clone, Copy)]
 pub struct Run {
     pub head: Head,
     pub stage: Stage,
@@ -238,7 +239,7 @@ fn byte(
 }
 
 // A run, and how many bytes it has read.
-#[derive(Drop)]
+#[derive(Clone, Copy)]
 pub struct Step {
     pub run: Run,
     pub read: usize,

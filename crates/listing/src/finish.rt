@@ -41,7 +41,7 @@ fn print(run: Run, floats: &[f64], links: &[u32], out: &mut [u8]) -> usize
 }
 
 // A run with no line left, and how many bytes it has printed.
-#[derive(Drop)]
+#[derive(Clone, Copy)]
 pub struct End {
     pub run: Run,
     pub long: usize,

@@ -1,4 +1,5 @@
 // The listing of an input that is there as a whole, `list`, or comes in chunks: `begin`, any number of `feed`, `finish`.
+#![tactic(auto)]
 pub mod finish;
 
 ghost use Rattle.std.specs.Prelude.{◌≡◌, ◌≤◌, length};
@@ -73,7 +74,7 @@ fn list_in(
 }
 
 // What a listing gives back: the answer, and how many bytes it has written.
-#[derive(Drop)]
+#[derive(Clone, Copy)]
 pub struct Listed {
     pub answer: Answer,
     pub long: usize,

@@ -72,7 +72,7 @@ fn keep_entries(s: Settings, n: Counters, floats: &mut [f64], numbers: &[u32])
 }
 
 // The first `len` numbers of a list.
-#[derive(Drop)]
+#[derive(Clone, Copy)]
 struct Few {
     list: [u32; 17],
     len: usize,

@@ -9,7 +9,7 @@ use arena::entries;
 use head::{Counters, Settings};
 
 // How many merges there were, and the widest finite gap between two that were merged.
-#[derive(Drop)]
+#[derive(Clone, Copy)]
 pub struct Merges {
     pub count: usize,
     pub widest: f64,

@@ -11,7 +11,7 @@ use rules::Pair;
 use scratch::stored;
 
 // A partner's number and its cost, or nobody so far.
-#[derive(Drop)]
+#[derive(Clone, Copy)]
 pub enum Partner {
     Named(usize, f64),
     Alone,

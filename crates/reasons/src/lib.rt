@@ -1,4 +1,5 @@
 // Why a line of the listing's input is bad: the first rule that it breaks.
+#![tactic(auto)]
 pub mod settings;
 
 ghost use Rattle.std.specs.Prelude.{◌≡◌, length};
@@ -7,7 +8,7 @@ ghost use Rattle.reasons.specs.Reasons.{ends_in_return, is_some, wrong_at, float
 
 use text::{Real, fields, numbers};
 
-#[derive(Drop)]
+#[derive(Clone, Copy)]
 pub enum Reason {
     // Over 200 bytes.
     Long,

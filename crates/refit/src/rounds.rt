@@ -57,7 +57,7 @@ fn enough(s: Settings, n: Counters, links: &[u32], done: usize) -> bool
 }
 
 // The counters after a round, and whether it was the last.
-#[derive(Drop)]
+#[derive(Clone, Copy)]
 struct Turn {
     counters: Counters,
     last: bool,

@@ -1,4 +1,5 @@
 // What the listing prints: the bad line, or the report of a tree.
+#![tactic(auto)]
 pub mod entries;
 pub mod fields;
 

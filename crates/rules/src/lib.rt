@@ -1,21 +1,22 @@
 // The answers of the rules that code takes apart.
+#![tactic(auto)]
 
 // What the search of a leaf gives: the nearest entry, or that no distance was below infinity.
-#[derive(Drop)]
+#[derive(Clone, Copy)]
 pub enum Nearest {
     Entry(usize),
     Nothing,
 }
 
 // What the tree check says: that the tree passes, or the lowest condition that fails.
-#[derive(Drop)]
+#[derive(Clone, Copy)]
 pub enum Verdict {
     Passes,
     Fails(u32),
 }
 
 // Where a caller reads the entries: entry i's weight is float `first` + i·`width`; its means follow, then its deviations.
-#[derive(Drop)]
+#[derive(Clone, Copy)]
 pub struct Places {
     pub entries: usize,
     pub first: usize,
@@ -25,7 +26,7 @@ pub struct Places {
 }
 
 // An entry, the partner it names, and what their merge costs.
-#[derive(Drop)]
+#[derive(Clone, Copy)]
 pub struct Pair {
     pub cost: f64,
     pub one: usize,

@@ -1,2 +1,3 @@
 // What a rebuild keeps in scratch.
+#![tactic(auto)]
 pub mod stored;

@@ -1,8 +1,9 @@
 // A set of numbers below 256, a bit each in four words.
+#![tactic(auto)]
 ghost use Rattle.std.specs.Prelude.{◌≡◌, ◌/◌, ◌<◌, eqb};
 ghost use Rattle.seen.specs.Sets.{none, word_of, bit_of, times, with};
 
-#[derive(Drop)]
+#[derive(Clone, Copy)]
 pub struct Seen {
     pub w0: u64,
     pub w1: u64,
@@ -11,7 +12,7 @@ pub struct Seen {
 }
 
 // A set with one list's numbers more, or that one of them was there.
-#[derive(Drop)]
+#[derive(Clone, Copy)]
 pub enum Marks {
     Apart(Seen),
     Twice,

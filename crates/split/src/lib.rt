@@ -1,4 +1,5 @@
 // The split of a node that is over its cap, and its way up to a new root.
+#![tactic(auto)]
 pub mod gather;
 pub mod groups;
 pub mod part;

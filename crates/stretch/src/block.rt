@@ -8,7 +8,7 @@ ghost use Rattle.stretch.specs.Blocks.{Block, parent_of, ParentFits, linked};
 use head::Settings;
 
 // The number of a node that another hangs under, or none.
-#[derive(Drop)]
+#[derive(Clone, Copy)]
 pub enum Parent {
     Node(usize),
     NoParent,

@@ -1,4 +1,5 @@
 // Lines of the listing: what a line's bytes say, and the bytes that say a number.
+#![tactic(auto)]
 pub mod digits;
 pub mod fields;
 pub mod heads;
@@ -10,35 +11,35 @@ pub mod writing;
 use head::Head;
 
 // What a byte says as a digit.
-#[derive(Drop)]
+#[derive(Clone, Copy)]
 pub enum Digit {
     Is(u8),
     Not,
 }
 
 // What a field says as a whole number.
-#[derive(Drop)]
+#[derive(Clone, Copy)]
 pub enum Number {
     Is(u64),
     Not,
 }
 
 // What a field says as a float.
-#[derive(Drop)]
+#[derive(Clone, Copy)]
 pub enum Real {
     Is(f64),
     Not,
 }
 
 // What a field says as a word: its place among the words.
-#[derive(Drop)]
+#[derive(Clone, Copy)]
 pub enum Word {
     Is(u32),
     Not,
 }
 
 // dim, branching, leaf_cap and M of the first line.
-#[derive(Drop)]
+#[derive(Clone, Copy)]
 pub enum Sizes {
     Are(u64, u64, u64, u64),
     // No head has them.
@@ -46,7 +47,7 @@ pub enum Sizes {
 }
 
 // Feature, dist and abs of the first line.
-#[derive(Drop)]
+#[derive(Clone, Copy)]
 pub enum Choices {
     Are(u32, u32, u32),
     // No head has them.
@@ -54,14 +55,14 @@ pub enum Choices {
 }
 
 // What the first line sets.
-#[derive(Drop)]
+#[derive(Clone, Copy)]
 pub enum First {
     Head(Head),
     Malformed,
 }
 
 // What a line says as a row.
-#[derive(Drop)]
+#[derive(Clone, Copy)]
 pub enum RowLine {
     Row,
     // A field is no float, or there are more or fewer than a row has.

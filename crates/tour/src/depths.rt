@@ -4,7 +4,7 @@ ghost use Rattle.tour.specs.Walking.{put_in, is_fork, deeper, no_depths, met, le
 
 use seen::Seen;
 
-#[derive(Drop)]
+#[derive(Clone, Copy)]
 pub struct Depths {
     pub leaves: Seen,
     pub inner: Seen,

@@ -1,5 +1,6 @@
 // Conditions 4 and 6, the nodes: one walk from the root along the links, into each node of a list that names the list's node as its
 // parent, on to the next of the list, and up when the list is done. Nothing is written.
+#![tactic(auto)]
 pub mod depths;
 
 ghost use Rattle.std.specs.Prelude.{◌≡◌, true, ◌<◌, length};
@@ -16,7 +17,7 @@ use head::{Counters, Settings};
 use stretch::block::Parent;
 
 // A step of the walk: down to a node, up to a node with that many of its list done, the end, or off the tree.
-#[derive(Drop)]
+#[derive(Clone, Copy)]
 pub enum Step {
     Down(usize),
     Up(usize, usize),
@@ -25,7 +26,7 @@ pub enum Step {
 }
 
 // How a walk went: it met every node and came back, and these are the depths; or it met others, or some twice, or not all.
-#[derive(Drop)]
+#[derive(Clone, Copy)]
 pub enum Walked {
     Whole(Depths),
     Astray,

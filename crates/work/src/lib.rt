@@ -1,4 +1,5 @@
 // What a call does with its rows, in slices that are as long as needed.
+#![tactic(auto)]
 pub mod change;
 
 ghost use Rattle.std.specs.Prelude.{◌≡◌, ◌*◌, ◌≤◌, length};
@@ -14,7 +15,7 @@ use head::{Counters, Settings};
 use insert::insert_all;
 use refit::refit;
 
-#[derive(Drop)]
+#[derive(Clone, Copy)]
 pub enum Work {
     Insert,
     Refit,

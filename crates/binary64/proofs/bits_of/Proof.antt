@@ -9,7 +9,7 @@ nan-bits : 0x7ff8_0000_0000_0000 ≡ to_bits binary64 nan
 unfolding to_bits
 nan-bits = refl
 
-float-to-bits-result : tie.Need-float-to-bits-result
+float-to-bits-result : tie.Need-float_to_bits-result
 float-to-bits-result c = subst (λ (b : Bool). T (not b)) (sym c.if1.false ∙ differs c.before.args.x) tt
 
 returns : tie.Need-returns

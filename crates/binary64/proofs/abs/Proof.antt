@@ -55,17 +55,17 @@ rest (inf false) h k = refl
 rest (fin false m e) h k = refl
 rest (fin true m e) h k = absurd (small (m * up e * 1) (0 * down e) (ltb-false 0 (m * up e * 1 + 0 * down e) h) k)
 
-returns : tie.Need-returns
+returns : tie.Need-returns-then-x
 unfolding of_bits
-returns c = negative c.before.args.x c.if1.true
+returns c = negative c.before.args.x c.if-x.true
 
-returns-2 : tie.Need-returns-2
+returns-2 : tie.Need-returns-then-x-2
 unfolding of_bits
-returns-2 c = nothing c.before.before.args.x c.if2.true (passes (fits binary64 c.before.before.args.x) c.before.before.well-formed.0.1)
+returns-2 c = nothing c.before.before.args.x c.if-x-2.true (passes (fits binary64 c.before.before.args.x) c.before.before.well_formed.0.1)
 
-returns-3 : tie.Need-returns-3
+returns-3 : tie.Need-returns
 unfolding of_bits
-returns-3 c = rest c.before.before.args.x c.before.if1.false c.if2.false
+returns-3 c = rest c.before.before.args.x c.before.if-x.false c.if-x-2.false
 
-pub abs-spec : {M : Type 1} → statement M
-abs-spec = tie.close (tie.spec returns returns-2 returns-3)
+pub abs_spec : {M : Type 1} → statement M
+abs_spec = tie.close (tie.spec returns returns-2 returns-3)

@@ -7,38 +7,38 @@ use Rattle.binary64.specs.Counts.{is_count, told, count_of}
 use Rattle.binary64.proofs.count_of.Statement.{statement}
 use Rattle.binary64.proofs.count_of.Tie as tie
 
-abbrev tests : tie.After-row-known → tie.Then2
+abbrev tests : tie.After-row_known-1 → tie.Then-w-2
 tests c = c.before.before
 
-inside : (c : tie.Then2) → Ranged c.before.before.args.w
-inside c = ranged c.before.before.args.w c.before.if1.true c.if2.true
+inside : (c : tie.Then-w-2) → Ranged c.before.before.args.w
+inside c = ranged c.before.before.args.w c.before.if-w.true c.if-w-2.true
 
-truncating-f64-to-u64-requires : tie.Need-truncating-f64-to-u64-requires
+truncating-f64-to-u64-requires : tie.Need-truncating_f64_to_u64-n-requires
 truncating-f64-to-u64-requires c κs = ((inside c).above, (inside c).below)
 
-int-to-float-if3 : tie.Need-int-to-float-if3
+int-to-float-if3 : tie.Need-int_to_float-n
 unfolding in_float
 int-to-float-if3 c =
-    let n = c.before.truncating-f64-to-u64.result in
-    le→leb n most (subst (λ (k : ℕ). k ≤ most) (sym c.before.truncating-f64-to-u64.ensures) (inside (tests c)).few)
+    let n = c.before.truncating_f64_to_u64-n.result in
+    le→leb n most (subst (λ (k : ℕ). k ≤ most) (sym c.before.truncating_f64_to_u64-n.ensures) (inside (tests c)).few)
 
-returns : tie.Need-returns
+returns : tie.Need-returns-then-n-w
 unfolding count_of is_count told
 returns c =
-    rw ((tests c.before).before.if1.true, (tests c.before).if2.true, ← c.before.before.truncating-f64-to-u64.ensures, c.if3.true)
+    rw ((tests c.before).before.if-w.true, (tests c.before).if-w-2.true, ← c.before.before.truncating_f64_to_u64-n.ensures, c.if-n-w.true)
 
-returns-2 : tie.Need-returns-2
+returns-2 : tie.Need-returns-else-n-w
 unfolding count_of is_count told
 returns-2 c =
-    rw ((tests c.before).before.if1.true, (tests c.before).if2.true, ← c.before.before.truncating-f64-to-u64.ensures, c.if3.false)
+    rw ((tests c.before).before.if-w.true, (tests c.before).if-w-2.true, ← c.before.before.truncating_f64_to_u64-n.ensures, c.if-n-w.false)
 
-returns-3 : tie.Need-returns-3
+returns-3 : tie.Need-returns-else-w-2
 unfolding count_of is_count told
-returns-3 c = rw (c.before.if1.true, c.if2.false)
+returns-3 c = rw (c.before.if-w.true, c.if-w-2.false)
 
-returns-4 : tie.Need-returns-4
+returns-4 : tie.Need-returns-else-w
 unfolding count_of is_count told
-returns-4 c = rw c.if1.false
+returns-4 c = rw c.if-w.false
 
-pub count-of-spec : {M : Type 1} → statement M
-count-of-spec = tie.close (tie.spec truncating-f64-to-u64-requires int-to-float-if3 returns returns-2 returns-3 returns-4)
+pub count_of_spec : {M : Type 1} → statement M
+count_of_spec = tie.close (tie.spec truncating-f64-to-u64-requires int-to-float-if3 returns returns-2 returns-3 returns-4)

@@ -5,12 +5,12 @@ use Rattle.binary64.specs.Values.{ranked, differs, nan_is, ranked_other}
 use Rattle.binary64.proofs.rank.Statement.{statement}
 use Rattle.binary64.proofs.rank.Tie as tie
 
-returns : tie.Need-returns
+returns : tie.Need-returns-then-x
 unfolding div of_bits
-returns c = ap ranked (sym (nan_is c.before.args.x (sym (differs c.before.args.x) ∙ c.if1.true)))
+returns c = ap ranked (sym (nan_is c.before.args.x (sym (differs c.before.args.x) ∙ c.if-x.true)))
 
-returns-2 : tie.Need-returns-2
-returns-2 c = sym (ranked_other c.before.args.x (sym (differs c.before.args.x) ∙ c.if1.false))
+returns-2 : tie.Need-returns-else-x
+returns-2 c = sym (ranked_other c.before.args.x (sym (differs c.before.args.x) ∙ c.if-x.false))
 
-pub rank-spec : {M : Type 1} → statement M
-rank-spec = tie.close (tie.spec returns returns-2)
+pub rank_spec : {M : Type 1} → statement M
+rank_spec = tie.close (tie.spec returns returns-2)

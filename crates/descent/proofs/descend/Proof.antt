@@ -4,7 +4,7 @@ use Rattle.stretch.specs.Stretches.{whole}
 use Rattle.descent.proofs.descend.Statement.{statement}
 use Rattle.descent.proofs.descend.Tie as tie
 
-go-down-requires : tie.Need-go-down-requires
+go-down-requires : tie.Need-go_down-requires
 go-down-requires c κs =
     let start = c.before.before.before.before.before.before in
     let a = start.args in
@@ -15,7 +15,7 @@ returns c =
     let a = c.before.before.before.before.before.before.before.args in
     rw (whole a.floats.now, whole a.links.now, whole a.x.now) at c.go_down.ensures
 
-pub descend-spec : {M : Type 1} → statement M
-descend-spec =
+pub descend_spec : {M : Type 1} → statement M
+descend_spec =
     tie.close (tie.spec (λ c. search rules) (λ c. search rules) (λ c. search rules) (λ c. search rules) (λ c. search rules) (λ c. search rules)
     (λ c. search rules) (λ c. search rules) (λ c. search rules) go-down-requires returns)

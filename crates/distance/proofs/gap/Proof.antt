@@ -27,13 +27,13 @@ rest AverageIntracluster n a b h = refl
 rest VarianceIncrease n a b h = refl
 rest Radius n a b h = refl
 
-returns : tie.Need-returns
+returns : tie.Need-returns-in-CentroidManhattan
 unfolding gap_of
-returns c = rw (c.before.enum_told.given.1, c.manhattan.ensures)
+returns c = rw (c.before.in-CentroidManhattan.is, c.manhattan.ensures)
 
-returns-2 : tie.Need-returns-2
+returns-2 : tie.Need-returns-in_default
 unfolding squared_gap
-returns-2 c = c.sq-euclidean.ensures ∙ rest _ _ _ _ c.before.match.keys2
+returns-2 c = c.sq_euclidean.ensures ∙ rest _ _ _ _ c.before.in_default.keys2
 
-pub gap-spec : {M : Type 1} → statement M
-gap-spec = tie.close (tie.spec (λ c. search rules) (λ c κs. search rules) (λ c κs. search rules) returns returns-2)
+pub gap_spec : {M : Type 1} → statement M
+gap_spec = tie.close (tie.spec (λ c. search rules) (λ c κs. search rules) (λ c κs. search rules) returns returns-2)

@@ -8,22 +8,22 @@ use Rattle.kernels.specs.Laws.{sum-next}
 use Rattle.distance.proofs.total.Statement.{statement}
 use Rattle.distance.proofs.total.Tie as tie
 
-abbrev invariant-loop : tie.invariant-loop
+abbrev invariant-loop : tie.invariant-loop-i
 invariant-loop dim deviation sum₀ i₀ sum i = (i ≤ dim) × (sum ≡ sum_to (at deviation) i)
 
-abbrev decreases-loop : tie.decreases-loop
+abbrev decreases-loop : tie.decreases-loop-i
 decreases-loop dim deviation sum₀ i₀ sum i = dim - i
 
-loop-holds : tie.Need-loop-init invariant-loop decreases-loop
+loop-holds : tie.Need-loop-i-init invariant-loop decreases-loop
 loop-holds c = (search rules, unfold sum_to in refl)
 
-loop-again : tie.Need-loop-preserved invariant-loop decreases-loop
-loop-again c = (omega arith, rw c.before.before.loop.invariant.1 (sym (sum-next _ _)))
+loop-again : tie.Need-loop-i-preserved invariant-loop decreases-loop
+loop-again c = (omega arith, rw c.before.before.loop-i.invariant.1 (sym (sum-next _ _)))
 
 returns : tie.Need-returns invariant-loop decreases-loop
-returns c = c.before.loop.invariant.1 ∙ ap (sum_to _) (omega arith)
+returns c = c.before.loop-i.invariant.1 ∙ ap (sum_to _) (omega arith)
 
-pub total-spec : {M : Type 1} → statement M
-total-spec =
+pub total_spec : {M : Type 1} → statement M
+total_spec =
     tie.close
     (tie.spec invariant-loop decreases-loop loop-holds (λ c. search rules) (λ c. search rules) (λ c. search rules) (λ c. search rules) loop-again returns)

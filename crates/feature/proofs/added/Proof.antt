@@ -9,30 +9,31 @@ use Rattle.kernels.specs.Laws.{up_to_turn, up_to_pass, min_start, min_end}
 use Rattle.feature.specs.Steps.{added_at}
 use Rattle.feature.proofs.added.Statement.{statement}
 use Rattle.feature.proofs.added.Tie as tie
+use Rattle.feature.proofs.added.Lts.{else-i-dim, then-i-dim}
 
-abbrev invariant-loop : tie.invariant-loop
+abbrev invariant-loop : tie.invariant-loop-i
 invariant-loop dim coef x mean deviation out₀ i₀ out i = (i ≤ 8) × (out ≡ up_to (added_at coef mean deviation x) (min i dim) deviation)
 
-abbrev decreases-loop : tie.decreases-loop
+abbrev decreases-loop : tie.decreases-loop-i
 decreases-loop dim coef x mean deviation out₀ i₀ out i = 8 - i
 
-loop-holds : tie.Need-loop-init invariant-loop decreases-loop
+loop-holds : tie.Need-loop-i-init invariant-loop decreases-loop
 loop-holds c = (search rules, rw min_start (unfold up_to in refl))
 
-loop-again : tie.Need-loop-preserved invariant-loop decreases-loop
+loop-again : tie.Need-loop-i-preserved invariant-loop decreases-loop
 loop-again c = (
   omega arith,
-  elim c.if1.branch [
-    | inl w ↦ w.2 ∙ rw c.before.before.loop.invariant.1 (sym (up_to_turn _ _ _ _ w.0.taken))
-    | inr w ↦ w.1 ∙ c.before.before.loop.invariant.1 ∙ sym (up_to_pass _ _ _ _ w.0.left)
+  elim c.if-i-dim.branch [
+    | then-i-dim w ↦ w.2 ∙ rw c.before.before.loop-i.invariant.1 (sym (up_to_turn _ _ _ _ w.if-i-dim.true))
+    | else-i-dim w ↦ w.1 ∙ c.before.before.loop-i.invariant.1 ∙ sym (up_to_pass _ _ _ _ w.if-i-dim.false)
   ],
 )
 
 returns : tie.Need-returns invariant-loop decreases-loop
-returns c = c.before.loop.invariant.1 ∙ rw (min_end c.before.loop.i c.before.before.args.dim (omega arith))
+returns c = c.before.loop-i.invariant.1 ∙ rw (min_end c.before.loop-i.i c.before.before.args.dim (omega arith))
 
-pub added-spec : {M : Type 1} → statement M
-added-spec =
+pub added_spec : {M : Type 1} → statement M
+added_spec =
     tie.close
     (tie.spec invariant-loop decreases-loop loop-holds (λ c. search rules) (λ c. search rules) (λ c. search rules) (λ c. search rules) (λ c. search rules)
     (λ c. search rules) (λ c. search rules) (λ c. search rules) (λ c. search rules) (λ c. search rules) loop-again returns)

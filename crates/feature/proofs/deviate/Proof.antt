@@ -4,16 +4,16 @@ use Rattle.feature.specs.Steps.{deviated}
 use Rattle.feature.proofs.deviate.Statement.{statement}
 use Rattle.feature.proofs.deviate.Tie as tie
 
-returns : tie.Need-returns
+returns : tie.Need-returns-in-Spherical
 unfolding deviated
-returns c = rw (c.before.before.enum_told.given.1, c.sq-euclidean.ensures)
+returns c = rw (c.before.before.enum_told-1.given.1, c.sq_euclidean-sum.ensures)
 
-returns-2 : tie.Need-returns-2
+returns-2 : tie.Need-returns-in-Diagonal
 unfolding deviated
-returns-2 c = rw (c.before.enum-told2.given.1, c.added.ensures)
+returns-2 c = rw (c.before.in-Diagonal.is, c.added.ensures)
 
-pub deviate-spec : {M : Type 1} → statement M
-deviate-spec =
+pub deviate_spec : {M : Type 1} → statement M
+deviate_spec =
     tie.close
     (tie.spec (λ c. search rules) (λ c. search rules) (λ c κs. search rules) (λ c. search rules) (λ c. search rules) (λ c. search rules)
     (λ c κs. search rules) returns returns-2)

@@ -8,26 +8,26 @@ use Rattle.feature.specs.Summaries.{slots_few}
 use Rattle.feature.proofs.join.Statement.{statement}
 use Rattle.feature.proofs.join.Tie as tie
 
-abbrev start : tie.After-x2 → tie.Start
+abbrev start : tie.After-x-2-1 → tie.Start
 start c = c.before.before.before.before.before.before.before.before.before.before.before.before
 
 eight : (c : tie.Start) → length c.args.o.mean ≡ 8
 eight c = search rules
 
-both-requires : tie.Need-both-requires
-both-requires c κs = rw c.slots.ensures (slots_few _ _ (search rules))
+both-requires : tie.Need-both-sum-requires
+both-requires c κs = rw c.slots-n.ensures (slots_few _ _ (search rules))
 
-moved-requires : tie.Need-moved-requires
+moved-requires : tie.Need-moved-mean-requires
 moved-requires c κs = let l = eight (start c) in (search rules, omega arith)
 
-deviate-requires : tie.Need-deviate-requires
+deviate-requires : tie.Need-deviate-deviation-requires
 deviate-requires c κs = let l = eight (start c.before.before) in (search rules, omega arith)
 
 returns : tie.Need-returns
 unfolding blended
 returns c =
     let s = c.before.before.before.before in
-    rw (c.deviate.ensures, c.before.before.moved.ensures, s.both.ensures, s.before.slots.ensures)
+    rw (c.deviate-deviation.ensures, c.before.before.moved-mean.ensures, s.both-sum.ensures, s.before.slots-n.ensures)
 
-pub join-spec : {M : Type 1} → statement M
-join-spec = tie.close (tie.spec (λ c κs. search rules) both-requires (λ c. search rules) moved-requires (λ c. search rules) deviate-requires returns)
+pub join_spec : {M : Type 1} → statement M
+join_spec = tie.close (tie.spec (λ c κs. search rules) both-requires (λ c. search rules) moved-requires (λ c. search rules) deviate-requires returns)

@@ -4,13 +4,13 @@ use Rattle.feature.specs.Summaries.{slots_of}
 use Rattle.feature.proofs.slots.Statement.{statement}
 use Rattle.feature.proofs.slots.Tie as tie
 
-returns : tie.Need-returns
+returns : tie.Need-returns-in-Spherical
 unfolding slots_of
-returns c = rw c.enum_told.given.1
+returns c = rw c.in-Spherical.is
 
-returns-2 : tie.Need-returns-2
+returns-2 : tie.Need-returns-in-Diagonal
 unfolding slots_of
-returns-2 c = rw c.enum-told2.given.1
+returns-2 c = rw c.in-Diagonal.is
 
-pub slots-spec : {M : Type 1} → statement M
-slots-spec = tie.close (tie.spec (λ c. search rules) (λ c. search rules) returns returns-2)
+pub slots_spec : {M : Type 1} → statement M
+slots_spec = tie.close (tie.spec (λ c. search rules) (λ c. search rules) returns returns-2)

@@ -9,5 +9,5 @@ returns c =
     let a = c.before.before.before.before.args in
     λ ls. absorbs-is a.s a.n a.floats.now ls a.row.now a.e (c.before.to_row.ensures ls)
 
-pub absorbs-spec : {M : Type 1} → statement M
-absorbs-spec = tie.close (tie.spec (λ c κs. search rules) returns)
+pub absorbs_spec : {M : Type 1} → statement M
+absorbs_spec = tie.close (tie.spec (λ c κs. search rules) returns)

@@ -8,32 +8,32 @@ use Rattle.grow.proofs.begin.Statement.{statement}
 use Rattle.grow.proofs.begin.Tie as tie
 
 -- the start, from the entry's slot written
-abbrev start : tie.After-append → tie.Start
+abbrev start : tie.After-append-r → tie.Start
 start c = c.before.before.before.before
 
-append-requires-2 : tie.Need-append-requires-2
+append-requires-2 : tie.Need-append-requires
 append-requires-2 c κs =
     let new = c.before.before.before in
     let start = start new in
     let a = start.args in
-    let more = new.append.ensures.0 in (
+    let more = new.append-r.ensures.0 in (
       (
-        links_begun a.s a.n _ more refl start.pre.0.1,
-        below-begun a.s a.n _ more start.pre.0.2,
-        omega (arith, start.pre.0.3, caps_small a.s a.n _ start.pre.0.0),
+        links_begun a.s a.n _ more refl start.requires.floats.1,
+        below-begun a.s a.n _ more start.requires.floats.2,
+        omega (arith, start.requires.floats.3, caps_small a.s a.n _ start.requires.floats.0),
       ),
-      spare_begun a.s a.n _ more a.links.now a.leaf start.pre.1.1,
+      spare_begun a.s a.n _ more a.links.now a.leaf start.requires.shaped.1,
     )
 
 returns : tie.Need-returns
 returns c =
     let new = c.before.before.before.before.before.before in
     let a = (start new).args in
-    let more = new.append.ensures.0 in (
+    let more = new.append-r.ensures.0 in (
       more,
-      begun-is a.s a.n _ more a.floats.now _ a.links.now _ a.leaf a.c (new.append.ensures.1 a.links.now)
-          (c.before.before.append2.ensures _),
+      begun-is a.s a.n _ more a.floats.now _ a.links.now _ a.leaf a.c (new.append-r.ensures.1 a.links.now)
+          (c.before.before.append.ensures _),
     )
 
-pub begin-spec : {M : Type 1} → statement M
-begin-spec = tie.close (tie.spec (λ c κs. search rules) append-requires-2 (λ c. search rules) (λ c. search rules) returns)
+pub begin_spec : {M : Type 1} → statement M
+begin_spec = tie.close (tie.spec (λ c κs. search rules) append-requires-2 (λ c. search rules) (λ c. search rules) returns)

@@ -10,77 +10,77 @@ use Rattle.grow.proofs.grow.Statement.{statement}
 use Rattle.grow.proofs.grow.Tie as tie
 
 -- the start, from the descent done; the descent, from the path fed; the path, from the row placed
-abbrev start : tie.After-descend → tie.Start
+abbrev start : tie.After-descend-leaf → tie.Start
 start c = c.before.before.before.before.before.before
 
-abbrev found : tie.After-feed-path → tie.After-descend
+abbrev found : tie.After-feed_path → tie.After-descend-leaf
 found c = c.before.before.before
 
-abbrev fed : tie.After-try-absorb → tie.After-feed-path
+abbrev fed : tie.After-try_absorb-m → tie.After-feed_path
 fed c = c.before.before.before.before.before
 
 -- the tree as it is lent
 abbrev tree : tie.Start → Tree
 tree c = tree_of c.args.s c.args.n c.args.floats.now c.args.links.now
 
-leaf : (c : tie.After-descend) → c.descend.result ≡ leaf_for (tree (start c)) (λ d. dist_to (start c).args.s d (start c).args.row.now)
-leaf c = c.descend.ensures.0 ∙ ap (λ i. leaf_for (tree (start c)) i.near) (item_row (start c).args.s (start c).args.row.now)
+leaf : (c : tie.After-descend-leaf) → c.descend-leaf.result ≡ leaf_for (tree (start c)) (λ d. dist_to (start c).args.s d (start c).args.row.now)
+leaf c = c.descend-leaf.ensures.value ∙ ap (λ i. leaf_for (tree (start c)) i.near) (item_row (start c).args.s (start c).args.row.now)
 
-path : (c : tie.After-feed-path)
-    → tree_of (start (found c)).args.s (start (found c)).args.n c.feed-path.new.1.1.0 (start (found c)).args.links.now
-    ≡ along_path (push (start (found c)).args.s (start (found c)).args.row.now) (found c).descend.result (tree (start (found c)))
+path : (c : tie.After-feed_path)
+    → tree_of (start (found c)).args.s (start (found c)).args.n c.feed_path.new.1.1.0 (start (found c)).args.links.now
+    ≡ along_path (push (start (found c)).args.s (start (found c)).args.row.now) (found c).descend-leaf.result (tree (start (found c)))
 path c =
     let a = (start (found c)).args in
-    c.feed-path.ensures ∙ ap (λ i. along_path i.taken (found c).descend.result (tree (start (found c)))) (item_row a.s a.row.now)
+    c.feed_path.ensures ∙ ap (λ i. along_path i.true (found c).descend-leaf.result (tree (start (found c)))) (item_row a.s a.row.now)
 
-descend-requires : tie.Need-descend-requires
+descend-requires : tie.Need-descend-leaf-requires
 descend-requires c κs =
     let start = c.before.before.before.before.before in
-    ((start.requires.0.0, start.requires.0.1, fits_row start.args.s start.args.row.now start.requires.0.2), growable_sure _ _ start.requires.1)
+    ((start.requires.floats.0, start.requires.floats.1, fits_row start.args.s start.args.row.now start.requires.floats.2), growable_sure _ _ start.requires.growable)
 
-feed-path-requires : tie.Need-feed-path-requires
+feed-path-requires : tie.Need-feed_path-requires
 feed-path-requires c κs =
     let start = start c.before.before in (
-      (start.pre.0.0, start.pre.0.1, fits_row start.args.s start.args.row.now start.pre.0.2),
-      (growable_sure _ _ start.pre.1, c.before.before.descend.ensures.1),
+      (start.requires.floats.0, start.requires.floats.1, fits_row start.args.s start.args.row.now start.requires.floats.2),
+      (growable_sure _ _ start.requires.growable, c.before.before.descend-leaf.ensures.upper_bound),
     )
 
-try-absorb-requires : tie.Need-try-absorb-requires
+try-absorb-requires : tie.Need-try_absorb-m-requires
 try-absorb-requires c κs =
     let fed = c.before.before.before.before in
     let down = found fed in
     let start = start down in
     let a = start.args in (
-      (rw fed.feed-path.auto.1.1.0 start.pre.0.0, start.pre.0.1, start.pre.0.2),
-      row_place a.s a.n a.floats.now _ a.links.now a.row.now _ start.pre.1 (leaf down) down.descend.ensures.1 (path fed),
+      (rw fed.feed_path.auto.1.1.0 start.requires.floats.0, start.requires.floats.1, start.requires.floats.2),
+      row_place a.s a.n a.floats.now _ a.links.now a.row.now _ start.requires.growable (leaf down) down.descend-leaf.ensures.upper_bound (path fed),
     )
 
-split-if-over-requires : tie.Need-split-if-over-requires
+split-if-over-requires : tie.Need-split_if_over-requires
 split-if-over-requires c κs =
     let placed = c.before.before.before.before.before.before in
     let fed = fed placed in
     let down = found fed in
     let start = start down in
     let a = start.args in
-    let floats = rw (sym placed.try-absorb.auto.1.1.0) at placed.try-absorb.ensures.0.0 in (
-      (floats, rw (sym placed.try-absorb.auto.1.1.1.0) at placed.try-absorb.ensures.0.1),
-      row_rising a.s a.n a.floats.now _ a.links.now a.row.now _ start.pre.1 (leaf down) _ _ _ (path fed) placed.try-absorb.ensures.1
+    let floats = rw (sym placed.try_absorb-m.auto.1.1.0) at placed.try_absorb-m.ensures.floats_2.0 in (
+      (floats, rw (sym placed.try_absorb-m.auto.1.1.1.0) at placed.try_absorb-m.ensures.floats_2.1),
+      row_rising a.s a.n a.floats.now _ a.links.now a.row.now _ start.requires.growable (leaf down) _ _ _ (path fed) placed.try_absorb-m.ensures.links_after
           floats,
     )
 
 returns : tie.Need-returns
 returns c =
-    let split = c.before.before.before.before.split-if-over in
+    let split = c.before.before.before.before.split_if_over in
     let placed = c.before.before.before.before.before.before.before.before.before.before.before in
     let fed = fed placed in
     let down = found fed in
     let start = start down in
     let a = start.args in (
       (
-        rw (placed.try-absorb.auto.1.1.0, fed.feed-path.kept.1.1.0) at split.ensures.0.0,
-        rw placed.try-absorb.auto.1.1.1.0 at split.ensures.0.1,
+        rw (placed.try_absorb-m.auto.1.1.0, fed.feed_path.kept.1.1.0) at split.ensures.0.0,
+        rw placed.try_absorb-m.auto.1.1.1.0 at split.ensures.0.1,
       ),
-      grown-is a.s a.n a.floats.now _ a.links.now a.row.now _ start.pre.1 (leaf down) _ _ _ (path fed) placed.try-absorb.ensures.1
+      grown-is a.s a.n a.floats.now _ a.links.now a.row.now _ start.requires.growable (leaf down) _ _ _ (path fed) placed.try_absorb-m.ensures.links_after
           split.ensures.1,
     )
 

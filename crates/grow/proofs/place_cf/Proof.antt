@@ -18,13 +18,13 @@ use Rattle.grow.proofs.place_cf.Statement.{statement}
 use Rattle.grow.proofs.place_cf.Tie as tie
 
 -- the start, from the descent done; the descent, from the path fed; the path, from the entry begun
-abbrev start : tie.After-descend → tie.Start
+abbrev start : tie.After-descend-leaf → tie.Start
 start c = c.before.before.before.before.before.before
 
-abbrev found : tie.After-feed-path → tie.After-descend
+abbrev found : tie.After-feed_path → tie.After-descend-leaf
 found c = c.before.before.before
 
-abbrev fed : tie.After-begin → tie.After-feed-path
+abbrev fed : tie.After-begin-m → tie.After-feed_path
 fed c = c.before.before.before.before.before.before
 
 -- the tree as it is lent, and the summary that goes in
@@ -34,87 +34,87 @@ tree c = tree_of c.args.s c.args.n c.args.floats.now c.args.links.now
 abbrev summary : tie.Start → Summary
 summary c = summary_in c.args.s c.args.x.now
 
-leaf : (c : tie.After-descend) → c.descend.result ≡ leaf_for (tree (start c)) (λ d. dist_between (start c).args.s d (summary (start c)))
-leaf c = c.descend.ensures.0 ∙ ap (λ i. leaf_for (tree (start c)) i.near) (item_slot (start c).args.s (start c).args.x.now)
+leaf : (c : tie.After-descend-leaf) → c.descend-leaf.result ≡ leaf_for (tree (start c)) (λ d. dist_between (start c).args.s d (summary (start c)))
+leaf c = c.descend-leaf.ensures.value ∙ ap (λ i. leaf_for (tree (start c)) i.near) (item_slot (start c).args.s (start c).args.x.now)
 
-path : (c : tie.After-feed-path)
-    → tree_of (start (found c)).args.s (start (found c)).args.n c.feed-path.new.1.1.0 (start (found c)).args.links.now
-    ≡ along_path (λ d. merge (start (found c)).args.s d (summary (start (found c)))) (found c).descend.result (tree (start (found c)))
+path : (c : tie.After-feed_path)
+    → tree_of (start (found c)).args.s (start (found c)).args.n c.feed_path.new.1.1.0 (start (found c)).args.links.now
+    ≡ along_path (λ d. merge (start (found c)).args.s d (summary (start (found c)))) (found c).descend-leaf.result (tree (start (found c)))
 path c =
     let a = (start (found c)).args in
-    c.feed-path.ensures ∙ ap (λ i. along_path i.taken (found c).descend.result (tree (start (found c)))) (item_slot a.s a.x.now)
+    c.feed_path.ensures ∙ ap (λ i. along_path i.true (found c).descend-leaf.result (tree (start (found c)))) (item_slot a.s a.x.now)
 
-place : (c : tie.After-feed-path)
-    → Place (start (found c)).args.s (start (found c)).args.n (found c).descend.result
-    (tree_of (start (found c)).args.s (start (found c)).args.n c.feed-path.new.1.1.0 (start (found c)).args.links.now)
+place : (c : tie.After-feed_path)
+    → Place (start (found c)).args.s (start (found c)).args.n (found c).descend-leaf.result
+    (tree_of (start (found c)).args.s (start (found c)).args.n c.feed_path.new.1.1.0 (start (found c)).args.links.now)
 place c =
     let down = found c in
     let a = (start down).args in
-    entry_place a.s a.n a.floats.now _ a.links.now (summary (start down)) _ (start down).pre.1 (leaf down) down.descend.ensures.1 (path c)
+    entry_place a.s a.n a.floats.now _ a.links.now (summary (start down)) _ (start down).requires.placeable (leaf down) down.descend-leaf.ensures.upper_bound (path c)
 
-listed : (c : tie.After-begin)
-    → tree_of (start (found (fed c))).args.s c.begin.result c.begin.new.1.1.0 c.begin.new.1.1.1.0
-    ≡ begun (found (fed c)).descend.result (summary (start (found (fed c))))
-    (tree_of (start (found (fed c))).args.s (start (found (fed c))).args.n (fed c).feed-path.new.1.1.0 (start (found (fed c))).args.links.now)
+listed : (c : tie.After-begin-m)
+    → tree_of (start (found (fed c))).args.s c.begin-m.result c.begin-m.new.1.1.0 c.begin-m.new.1.1.1.0
+    ≡ begun (found (fed c)).descend-leaf.result (summary (start (found (fed c))))
+    (tree_of (start (found (fed c))).args.s (start (found (fed c))).args.n (fed c).feed_path.new.1.1.0 (start (found (fed c))).args.links.now)
 listed c =
     let a = (start (found (fed c))).args in
-    c.begin.ensures.1
-    ∙ ap (λ e. begun (found (fed c)).descend.result e (tree_of a.s a.n (fed c).feed-path.new.1.1.0 a.links.now)) c.before.load.ensures
+    c.begin-m.ensures.links_after
+    ∙ ap (λ e. begun (found (fed c)).descend-leaf.result e (tree_of a.s a.n (fed c).feed_path.new.1.1.0 a.links.now)) c.before.load.ensures
 
-floats : (c : tie.After-begin) {k : ℕ} → k ≡ length (start (found (fed c))).args.floats.now → Floats (start (found (fed c))).args.s c.begin.result k
+floats : (c : tie.After-begin-m) {k : ℕ} → k ≡ length (start (found (fed c))).args.floats.now → Floats (start (found (fed c))).args.s c.begin-m.result k
 floats c q =
     let start = start (found (fed c)) in
-    floats-begun start.args.s start.args.n _ c.begin.ensures.0 q start.pre.0.0 (place (fed c)).room
+    floats-begun start.args.s start.args.n _ c.begin-m.ensures.value q start.requires.floats.0 (place (fed c)).room
 
-links : (c : tie.After-begin) {k : ℕ} → k ≡ length (start (found (fed c))).args.links.now → Links (start (found (fed c))).args.s c.begin.result k
-links c q = let start = start (found (fed c)) in links_begun start.args.s start.args.n _ c.begin.ensures.0 q start.pre.0.1
+links : (c : tie.After-begin-m) {k : ℕ} → k ≡ length (start (found (fed c))).args.links.now → Links (start (found (fed c))).args.s c.begin-m.result k
+links c q = let start = start (found (fed c)) in links_begun start.args.s start.args.n _ c.begin-m.ensures.value q start.requires.floats.1
 
-descend-requires : tie.Need-descend-requires
+descend-requires : tie.Need-descend-leaf-requires
 descend-requires c κs =
     let start = c.before.before.before.before.before in
-    ((start.requires.0.0, start.requires.0.1, fits_slot start.args.s start.args.x.now start.requires.0.2), placeable_sure _ _ _ start.requires.1)
+    ((start.requires.floats.0, start.requires.floats.1, fits_slot start.args.s start.args.x.now start.requires.floats.2), placeable_sure _ _ _ start.requires.placeable)
 
-feed-path-requires : tie.Need-feed-path-requires
+feed-path-requires : tie.Need-feed_path-requires
 feed-path-requires c κs =
     let start = start c.before.before in (
-      (start.pre.0.0, start.pre.0.1, fits_slot start.args.s start.args.x.now start.pre.0.2),
-      (placeable_sure _ _ _ start.pre.1, c.before.before.descend.ensures.1),
+      (start.requires.floats.0, start.requires.floats.1, fits_slot start.args.s start.args.x.now start.requires.floats.2),
+      (placeable_sure _ _ _ start.requires.placeable, c.before.before.descend-leaf.ensures.upper_bound),
     )
 
 load-requires : tie.Need-load-requires
 load-requires c κs =
     let fed = c.before.before.before.before in
     let start = start (found fed) in
-    (start.pre.0.0.sized, start.pre.0.2)
+    (start.requires.floats.0.sized, start.requires.floats.2)
 
-begin-requires : tie.Need-begin-requires
+begin-requires : tie.Need-begin-m-requires
 begin-requires c κs =
     let fed = c.before.before.before.before.before in
     let start = start (found fed) in
     let a = start.args in
     let place = place fed in (
       (
-        rw fed.feed-path.auto.1.1.0 start.pre.0.0,
-        start.pre.0.1,
+        rw fed.feed_path.auto.1.1.0 start.requires.floats.0,
+        start.requires.floats.1,
         place.here,
         place.room,
       ),
       (
-        subst (Shaped a.s.feature a.s.dim) (sym c.load.ensures) (in_shaped a.s start.pre.0.0.sized a.x.now),
+        subst (Shaped a.s.feature a.s.dim) (sym c.load.ensures) (in_shaped a.s start.requires.floats.0.sized a.x.now),
         place_spare a.s a.n _ a.links.now _ place,
       ),
     )
 
-split-up-requires : tie.Need-split-up-requires
+split-up-requires : tie.Need-split_up-requires
 split-up-requires c κs =
     let begun = c.before.before.before.before.before.before in
     let fed = fed begun in
     let down = found fed in
     let start = start down in
     let a = start.args in
-    let long = floats begun (begun.begin.auto.1.1.0 ∙ fed.feed-path.kept.1.1.0) in (
-      (long, links begun begun.begin.auto.1.1.1.0),
-      entry_rising a.s a.n a.floats.now _ a.links.now (summary start) _ start.pre.1 (leaf down) _ _ _ (path fed) (listed begun) long,
+    let long = floats begun (begun.begin-m.auto.1.1.0 ∙ fed.feed_path.kept.1.1.0) in (
+      (long, links begun begun.begin-m.auto.1.1.1.0),
+      entry_rising a.s a.n a.floats.now _ a.links.now (summary start) _ start.requires.placeable (leaf down) _ _ _ (path fed) (listed begun) long,
     )
 
 returns : tie.Need-returns
@@ -126,14 +126,14 @@ returns c =
     let start = start down in
     let a = start.args in (
       (
-        rw (begun.begin.auto.1.1.0, fed.feed-path.kept.1.1.0) at split.ensures.0.0,
-        rw begun.begin.auto.1.1.1.0 at split.ensures.0.1,
+        rw (begun.begin-m.auto.1.1.0, fed.feed_path.kept.1.1.0) at split.ensures.0.0,
+        rw begun.begin-m.auto.1.1.1.0 at split.ensures.0.1,
       ),
-      replaced-is a.s a.n a.floats.now _ a.links.now (summary start) _ start.pre.1 (leaf down) _ _ _ (path fed) (listed begun)
+      replaced-is a.s a.n a.floats.now _ a.links.now (summary start) _ start.requires.placeable (leaf down) _ _ _ (path fed) (listed begun)
           split.ensures.1,
     )
 
-pub place-cf-spec : {M : Type 1} → statement M
-place-cf-spec =
+pub place_cf_spec : {M : Type 1} → statement M
+place_cf_spec =
     tie.close (tie.spec descend-requires feed-path-requires load-requires begin-requires split-up-requires (λ c. search rules) (λ c. search rules)
     returns)

@@ -6,15 +6,15 @@ use Rattle.split.specs.Up.{up_start, up_fits}
 use Rattle.grow.proofs.split_if_over.Statement.{statement}
 use Rattle.grow.proofs.split_if_over.Tie as tie
 
-returns : tie.Need-returns
+returns : tie.Need-returns-then-fits
 returns c =
     let start = c.before.before.before.before.before in
     let a = start.args in
     let t = tree_of a.s a.n a.floats.now a.links.now in
-    let within = sym (c.before.fits2.ensures a.floats.now) ∙ c.if1.true in
-    (start.requires.0, sym (up_fits a.s a.n.nodes a.i t within) ∙ up_start a.s a.n.nodes a.i t start.requires.1.nodes)
+    let within = sym (c.before.fits2.ensures a.floats.now) ∙ c.if-fits.true in
+    (start.requires.floats, sym (up_fits a.s a.n.nodes a.i t within) ∙ up_start a.s a.n.nodes a.i t start.requires.rising.nodes)
 
-pub split-if-over-spec : {M : Type 1} → statement M
-split-if-over-spec =
+pub split_if_over_spec : {M : Type 1} → statement M
+split_if_over_spec =
     tie.close (tie.spec (λ c κs. search rules) (λ c. search rules) returns (λ c κs. search rules) (λ c. search rules) (λ c. search rules)
     (λ c. search rules))

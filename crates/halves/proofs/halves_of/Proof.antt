@@ -12,28 +12,28 @@ use Rattle.halves.specs.Halves.{Dealt, placed_start, placed_first, placed_second
 use Rattle.halves.proofs.halves_of.Statement.{statement}
 use Rattle.halves.proofs.halves_of.Tie as tie
 
-abbrev invariant-loop : tie.invariant-loop
+abbrev invariant-loop : tie.invariant-loop-k
 invariant-loop s n floats leaf list w one₀ two₀ ones₀ twos₀ k₀ one two ones twos k =
     (k ≤ length list) × (ones + twos ≡ k) × (length one ≡ 17) × (length two ≡ 17)
     × AnyLinks s n floats (λ t.
     Dealt (side s w.a w.b (child t leaf (get_or list w.a 0)) (child t leaf (get_or list w.b 0))) (child t leaf) list k one ones two twos)
 
-abbrev decreases-loop : tie.decreases-loop
+abbrev decreases-loop : tie.decreases-loop-k
 decreases-loop s n floats leaf list w one₀ two₀ ones₀ twos₀ k₀ one two ones twos k = length list - k
 
-loop-holds : tie.Need-loop-init invariant-loop decreases-loop
+loop-holds : tie.Need-loop-k-init invariant-loop decreases-loop
 loop-holds c = (omega arith, refl, refl, refl, λ ls. placed_start _ _ _ _ _)
 
-goes-first-requires : tie.Need-goes-first-requires invariant-loop decreases-loop
+goes-first-requires : tie.Need-goes_first-requires invariant-loop decreases-loop
 goes-first-requires c κs =
     let start = c.before.before.before.before in
-    (start.requires.0, start.requires.1, c.loop-test.true, start.requires.2)
+    (start.requires.0, start.requires.1, c.loop-k-test.true, start.requires.2)
 
-loop-again : tie.Need-loop-preserved invariant-loop decreases-loop
+loop-again : tie.Need-loop-k-preserved invariant-loop decreases-loop
 loop-again c =
     let first = c.before.goes_first in
-    let taken = c.before.before.loop-test.true in
-    let loop = c.before.before.before.loop in
+    let taken = c.before.before.loop-k-test.true in
+    let loop = c.before.before.before.loop-k in
     let start = c.before.before.before.before.before.before in
     let list = start.args.list.now in
     let few = start.requires.3 in
@@ -44,7 +44,7 @@ loop-again c =
       rw w.2 (simp length-set loop.invariant.2),
       rw w.3 loop.invariant.3,
       λ ls. rw (w.2, w.3, w.4, w.5) (placed_first _ _ list loop.k loop.ones loop.twos loop.one loop.two taken (omega arith)
-          (sym w.0.taken ∙ first.ensures ls) (loop.invariant.4 ls)),
+          (sym w.0.true ∙ first.ensures ls) (loop.invariant.4 ls)),
     ))
     (λ w. (
       omega arith,
@@ -52,20 +52,20 @@ loop-again c =
       rw w.2 loop.invariant.2,
       rw w.3 (simp length-set loop.invariant.3),
       λ ls. rw (w.2, w.3, w.4, w.5) (placed_second _ _ list loop.k loop.ones loop.twos loop.one loop.two taken (omega arith)
-          (sym w.0.left ∙ first.ensures ls) (loop.invariant.4 ls)),
+          (sym w.0.false ∙ first.ensures ls) (loop.invariant.4 ls)),
     ))
-    c.if1.branch
+    c.if-goes_first.branch
 
 returns : tie.Need-returns invariant-loop decreases-loop
 returns c =
-    let loop = c.before.loop in
+    let loop = c.before.loop-k in
     let start = c.before.before.before.before in
     let a = start.args in
     λ ls. placed_end a.s (child (tree_of a.s a.n a.floats.now ls) a.leaf) a.list.now a.w loop.k loop.ones loop.twos
     loop.one loop.two start.requires.2 (omega arith) loop.invariant.1 loop.invariant.2 loop.invariant.3 (loop.invariant.4 ls)
 
-pub halves-of-spec : {M : Type 1} → statement M
-halves-of-spec =
+pub halves_of_spec : {M : Type 1} → statement M
+halves_of_spec =
     tie.close (tie.spec invariant-loop decreases-loop loop-holds goes-first-requires (λ c. omega arith) (λ c. omega arith) (λ c. omega arith) (λ c. omega arith)
     (λ c. omega arith) (λ c. omega arith) (λ c. omega arith) (λ c. omega arith) (λ c. omega arith) (λ c. omega arith) (λ c. omega arith)
     (λ c. omega arith) loop-again returns)

@@ -18,28 +18,28 @@ other (suc (suc (suc zero))) p q r s t = absurd (s refl)
 other (suc (suc (suc (suc zero)))) p q r s t = absurd (t refl)
 other (suc (suc (suc (suc (suc n))))) p q r s t = refl
 
-returns : tie.Need-returns
+returns : tie.Need-returns-in-0
 unfolding distance_at
 returns c = search rules
 
-returns-2 : tie.Need-returns-2
+returns-2 : tie.Need-returns-in-1
 unfolding distance_at
 returns-2 c = search rules
 
-returns-3 : tie.Need-returns-3
+returns-3 : tie.Need-returns-in-2
 unfolding distance_at
 returns-3 c = search rules
 
-returns-4 : tie.Need-returns-4
+returns-4 : tie.Need-returns-in-3
 unfolding distance_at
 returns-4 c = search rules
 
-returns-5 : tie.Need-returns-5
+returns-5 : tie.Need-returns-in-4
 unfolding distance_at
 returns-5 c = search rules
 
-returns-6 : tie.Need-returns-6
-returns-6 c = let r = c.match.rest in other c.before.args.n r.0.0.0.0.1 r.0.0.0.1 r.0.0.1 r.0.1 r.1
+returns-6 : tie.Need-returns-in_default
+returns-6 c = let r = c.in_default.in_default-own.rest in other c.before.args.n r.0.0.0.0.1 r.0.0.0.1 r.0.0.1 r.0.1 r.1
 
-pub distance-at-spec : {M : Type 1} → statement M
-distance-at-spec = tie.close (tie.spec returns returns-2 returns-3 returns-4 returns-5 returns-6)
+pub distance_at_spec : {M : Type 1} → statement M
+distance_at_spec = tie.close (tie.spec returns returns-2 returns-3 returns-4 returns-5 returns-6)

@@ -16,12 +16,12 @@ unfolding feature_at
 other zero h = absurd (h refl)
 other (suc n) h = refl
 
-returns : tie.Need-returns
+returns : tie.Need-returns-in-0
 unfolding feature_at
 returns c = search rules
 
-returns-2 : tie.Need-returns-2
-returns-2 c = other _ c.match.rest.1
+returns-2 : tie.Need-returns-in_default
+returns-2 c = other _ c.in_default.in_default-own.rest.1
 
-pub feature-at-spec : {M : Type 1} → statement M
-feature-at-spec = tie.close (tie.spec returns returns-2)
+pub feature_at_spec : {M : Type 1} → statement M
+feature_at_spec = tie.close (tie.spec returns returns-2)

@@ -14,12 +14,12 @@ use Rattle.insert.proofs.insert_all.Statement.{statement}
 use Rattle.rules.specs.Rows.{inserted}
 use Rattle.insert.proofs.insert_all.Tie as tie
 
-abbrev invariant-loop : tie.invariant-loop
+abbrev invariant-loop : tie.invariant-loop-k
 invariant-loop s floats₀ links₀ scratch₀ numbers₀ rows count m₀ k₀ floats links scratch numbers m k =
     Floats s m (length floats) × Links s m (length links) × (length floats ≡ length floats₀) × (length links ≡ length links₀)
     × (length scratch ≡ length scratch₀) × (length numbers ≡ length numbers₀) × Batch s rows count (tree_of s m₀ floats₀ links₀) k (tree_of s m floats links)
 
-abbrev decreases-loop : tie.decreases-loop
+abbrev decreases-loop : tie.decreases-loop-k
 decreases-loop s floats₀ links₀ scratch₀ numbers₀ rows count m₀ k₀ floats links scratch numbers m k = count - k
 
 -- the tree as it is lent
@@ -27,39 +27,39 @@ abbrev tree : tie.Start invariant-loop decreases-loop → Tree
 tree c = tree_of c.args.s c.args.n c.args.floats.now c.args.links.now
 
 -- the start, from a turn of the loop
-abbrev start : tie.At-loop invariant-loop decreases-loop → tie.Start invariant-loop decreases-loop
+abbrev start : tie.At-loop-k invariant-loop decreases-loop → tie.Start invariant-loop decreases-loop
 start c = c.before.before.before.before.before.before
 
-loop-holds : tie.Need-loop-init invariant-loop decreases-loop
+loop-holds : tie.Need-loop-k-init invariant-loop decreases-loop
 loop-holds c =
     let start = c.before.before.before.before.before in (
-      start.requires.0.0,
-      start.requires.0.1,
+      start.requires.floats.0,
+      start.requires.floats.1,
       refl,
       refl,
       refl,
       refl,
       batch_start start.args.s start.args.rows.now start.args.count (tree start)
-          start.requires.1.1,
+          start.requires.dim_in_bounds.1,
     )
 
 row-requires : tie.Need-row-requires invariant-loop decreases-loop
 row-requires c κs =
     let start = c.before.before.before.before.before.before.before.before.before.before.before in
-    let loop = c.before.before.before.before.before.loop in
-    let more = c.before.before.before.before.loop-test in
-    row_there start.args.s start.args.count loop.k (length start.args.rows.now) more.true start.requires.1.0
+    let loop = c.before.before.before.before.before.loop-k in
+    let more = c.before.before.before.before.loop-k-test in
+    row_there start.args.s start.args.count loop.k (length start.args.rows.now) more.true start.requires.dim_in_bounds.0
 
-insert-requires : tie.Need-insert-requires invariant-loop decreases-loop
+insert-requires : tie.Need-insert-m-requires invariant-loop decreases-loop
 insert-requires c κs =
     let start = c.before.before.before.before.before.before.before.before.before.before.before.before in
-    let more = c.before.before.before.before.before.loop-test in
+    let more = c.before.before.before.before.before.loop-k-test in
     let a = start.args in
-    let l = c.before.before.before.before.before.before.loop in
-    let there = row_there a.s a.count l.k (length a.rows.now) more.true start.requires.1.0 in
+    let l = c.before.before.before.before.before.before.loop-k in
+    let there = row_there a.s a.count l.k (length a.rows.now) more.true start.requires.dim_in_bounds.0 in
     let wide = row_wide a.s a.rows.now l.k there in
     let batch = l.invariant.6 in (
-      (l.invariant.0, l.invariant.1, rw (l.invariant.4, l.invariant.5) start.requires.0.2),
+      (l.invariant.0, l.invariant.1, rw (l.invariant.4, l.invariant.5) start.requires.floats.2),
       (
         rw c.row.ensures (omega arith),
         rest-one a.s (row_of a.s a.rows.now l.k) _ (batch-one a.s a.rows.now a.count (tree start) batch more.true),
@@ -67,53 +67,53 @@ insert-requires c κs =
     )
 
 -- the turn's number is below the count, which fits
-add-k : tie.Need-overflow-add-k invariant-loop decreases-loop
+add-k : tie.Need-overflow_add-k invariant-loop decreases-loop
 add-k c =
     let turn = c.before.before.before.before.before.before.before.before.before.before.before.before.before.before in
     let fit = (start turn.before).fits in
-    omega (arith, turn.loop-test.true)
+    omega (arith, turn.loop-k-test.true)
 
-loop-again : tie.Need-loop-preserved invariant-loop decreases-loop
+loop-again : tie.Need-loop-k-preserved invariant-loop decreases-loop
 loop-again c =
-    let more = c.before.before.before.before.before.before.before.before.before.before.before.before.before.before.loop-test in
+    let more = c.before.before.before.before.before.before.before.before.before.before.before.before.before.before.loop-k-test in
     let row = c.before.before.before.before.before.before.before.before.before.row in
     let turn = c.before.before.before.before.before.before.before.before.before.before.before.before.before.before.before in
     let start = start turn in
     let a = start.args in
-    let l = turn.loop in
-    let new = c.before.before.before.before.before.before.before.before.insert in (
+    let l = turn.loop-k in
+    let new = c.before.before.before.before.before.before.before.before.insert-m in (
       rw new.auto.1.1.0 new.ensures.0.0,
       rw new.auto.1.1.1.0 new.ensures.0.1,
       new.auto.1.1.0 ∙ l.invariant.2,
       new.auto.1.1.1.0 ∙ l.invariant.3,
       new.auto.1.1.1.1.0 ∙ l.invariant.4,
       new.auto.1.1.1.1.1.0 ∙ l.invariant.5,
-      batch-next a.s a.rows.now a.count (tree start) l.invariant.6 start.pre.0.0.sized more.true
+      batch-next a.s a.rows.now a.count (tree start) l.invariant.6 start.requires.floats.0.sized more.true
           (new.ensures.1 ∙ ap (λ x. inserted a.s x (tree_of a.s l.m l.floats l.links)) row.ensures),
     )
 
-same_length : tie.Need-same-length invariant-loop decreases-loop
-same_length c = c.before.loop.invariant.2
+same_length : tie.Need-shape_of-floats invariant-loop decreases-loop
+same_length c = c.before.loop-k.invariant.2
 
-same-length-2 : tie.Need-same-length-2 invariant-loop decreases-loop
-same-length-2 c = c.before.loop.invariant.3
+same-length-2 : tie.Need-shape_of-links invariant-loop decreases-loop
+same-length-2 c = c.before.loop-k.invariant.3
 
-same-length-3 : tie.Need-same-length-3 invariant-loop decreases-loop
-same-length-3 c = c.before.loop.invariant.4
+same-length-3 : tie.Need-shape_of-scratch invariant-loop decreases-loop
+same-length-3 c = c.before.loop-k.invariant.4
 
-same-length-4 : tie.Need-same-length-4 invariant-loop decreases-loop
-same-length-4 c = c.before.loop.invariant.5
+same-length-4 : tie.Need-shape_of-numbers invariant-loop decreases-loop
+same-length-4 c = c.before.loop-k.invariant.5
 
 returns : tie.Need-returns invariant-loop decreases-loop
 returns c =
     let start = c.before.before.before.before.before.before.before in
     let a = start.args in
-    let l = c.before.loop in (
+    let l = c.before.loop-k in (
       (rw l.invariant.2 at l.invariant.0, rw l.invariant.3 at l.invariant.1),
-      batch_end a.s a.rows.now a.count (tree start) l.invariant.6 c.loop-test.false,
+      batch_end a.s a.rows.now a.count (tree start) l.invariant.6 c.loop-k-test.false,
     )
 
-pub insert-all-spec : {M : Type 1} → statement M
-insert-all-spec = tie.close
+pub insert_all_spec : {M : Type 1} → statement M
+insert_all_spec = tie.close
     (tie.spec invariant-loop decreases-loop loop-holds row-requires insert-requires add-k (λ c. search rules) loop-again same_length same-length-2
     same-length-3 same-length-4 returns)

@@ -8,22 +8,22 @@ use Rattle.kernels.specs.Laws.{sum-next}
 use Rattle.kernels.proofs.manhattan.Statement.{statement}
 use Rattle.kernels.proofs.manhattan.Tie as tie
 
-abbrev invariant-loop : tie.invariant-loop
+abbrev invariant-loop : tie.invariant-loop-i
 invariant-loop dim a b sum₀ i₀ sum i = (i ≤ dim) × (sum ≡ sum_to (size_at a b) i)
 
-abbrev decreases-loop : tie.decreases-loop
+abbrev decreases-loop : tie.decreases-loop-i
 decreases-loop dim a b sum₀ i₀ sum i = dim - i
 
-loop-holds : tie.Need-loop-init invariant-loop decreases-loop
+loop-holds : tie.Need-loop-i-init invariant-loop decreases-loop
 loop-holds c = (search rules, unfold sum_to in refl)
 
-loop-again : tie.Need-loop-preserved invariant-loop decreases-loop
-loop-again c = (omega arith, rw (c.before.before.before.before.loop.invariant.1, c.abs.ensures) (sym (sum-next _ _)))
+loop-again : tie.Need-loop-i-preserved invariant-loop decreases-loop
+loop-again c = (omega arith, rw (c.before.before.before.before.loop-i.invariant.1, c.abs-sum.ensures) (sym (sum-next _ _)))
 
 returns : tie.Need-returns invariant-loop decreases-loop
-returns c = c.before.loop.invariant.1 ∙ ap (sum_to _) (omega arith)
+returns c = c.before.loop-i.invariant.1 ∙ ap (sum_to _) (omega arith)
 
-pub manhattan-spec : {M : Type 1} → statement M
-manhattan-spec =
+pub manhattan_spec : {M : Type 1} → statement M
+manhattan_spec =
     tie.close
     (tie.spec invariant-loop decreases-loop loop-holds (λ c. search rules) (λ c. search rules) (λ c. search rules) (λ c. search rules) (λ c κs. search rules) (λ c. search rules) (λ c. search rules) loop-again returns)

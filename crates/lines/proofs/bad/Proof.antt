@@ -11,8 +11,8 @@ returns : tie.Need-returns
 unfolding bad_run
 returns c =
     let run = c.before.before.args.run in
-    let at : Stage → Run = λ st. record { head = run.head; stage = st; number = run.number; long = 0 } in
-    ap at c.before.bad-stage.ensures
+    let at : Stage → Run = λ st. record { head = run.head-1; stage = st; number = run.number; long = 0 } in
+    ap at c.before.bad_stage-stage.ensures
 
-pub bad-spec : {M : Type 1} → statement M
-bad-spec = tie.close (tie.spec (λ c κs. search rules) returns)
+pub bad_spec : {M : Type 1} → statement M
+bad_spec = tie.close (tie.spec (λ c κs. search rules) returns)

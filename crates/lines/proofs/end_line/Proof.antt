@@ -5,45 +5,45 @@ use Rattle.lines.specs.Runs.{rows_room, still_bad, stage_stands, stage_read}
 use Rattle.lines.proofs.end_line.Statement.{statement}
 use Rattle.lines.proofs.end_line.Tie as tie
 
-read-first-requires : tie.Need-read-first-requires
+read-first-requires : tie.Need-read_first-requires
 read-first-requires c κs =
     let start = c.before.before.before.before.before.before.before.before.before.before in
     let a = start.args in (
-      start.requires.0.floats_room,
-      start.requires.0.links_room,
-      stage_stands a.run Stages.First c.before.before.before.enum_told.given.1 a.floats.now a.links.now start.requires.1.stands,
+      start.requires.room.floats_room,
+      start.requires.room.links_room,
+      stage_stands a.run Stages.First c.before.before.before.enum_told-1.given.1 a.floats.now a.links.now start.requires.reading.stands,
     )
 
-read-row-requires : tie.Need-read-row-requires
+read-row-requires : tie.Need-read_row-requires
 read-row-requires c κs =
     let enum-told2 = c.before.before.before.before.before in
     let start = enum-told2.before.before.before.before.before.before.before in
     let a = start.args in
-    (rows_room start.requires.0, stage_stands a.run Stages.Rows enum-told2.enum-told2.given.1 a.floats.now a.links.now start.requires.1.stands)
+    (rows_room start.requires.room, stage_stands a.run Stages.Rows enum-told2.in-Rows.is a.floats.now a.links.now start.requires.reading.stands)
 
-returns : tie.Need-returns
+returns : tie.Need-returns-in-First
 returns c =
     let read_first = c.before.before.before.before in
     let enum_told = read_first.before.before.before.before in
     let start = enum_told.before.before.before.before.before.before.before in
     let a = start.args in
-    stage_read a.run Stages.First enum_told.enum_told.given.1 a.floats.now a.links.now a.line.now read_first.read_first.ensures
+    stage_read a.run Stages.First enum_told.in-First.is a.floats.now a.links.now a.line.now read_first.read_first.ensures
 
-returns-2 : tie.Need-returns-2
+returns-2 : tie.Need-returns-in-Rows
 returns-2 c =
     let read-row = c.before.before.before.before.before.before.before.before in
     let enum-told2 = read-row.before.before.before.before.before.before in
     let start = enum-told2.before.before.before.before.before.before.before in
     let a = start.args in
-    stage_read a.run Stages.Rows enum-told2.enum-told2.given.1 a.floats.now a.links.now a.line.now read-row.read-row.ensures
+    stage_read a.run Stages.Rows enum-told2.in-Rows.is a.floats.now a.links.now a.line.now read-row.read_row.ensures
 
-returns-3 : tie.Need-returns-3
+returns-3 : tie.Need-returns-in-Bad
 returns-3 c =
     let start = c.before.before.before.before.before.before.before.before.before in
-    let a = start.args in still_bad a.run _ c.bad.ensures _ a.floats.now a.links.now c.before.before.stage.given.1
+    let a = start.args in still_bad a.run _ c.bad.ensures _ a.floats.now a.links.now c.before.before.stage-1.given.1
 
-pub end-line-spec : {M : Type 1} → statement M
-end-line-spec =
+pub end_line_spec : {M : Type 1} → statement M
+end_line_spec =
     tie.close (tie.spec (λ c. search rules) (λ c. search rules) (λ c. search rules) (λ c. search rules) read-first-requires (λ c. search rules)
     (λ c. search rules) (λ c. search rules) (λ c. search rules) read-row-requires (λ c. search rules) (λ c κs. search rules) (λ c. search rules)
     (λ c. search rules) returns (λ c. search rules) (λ c. search rules) (λ c. search rules) (λ c. search rules) returns-2 returns-3)

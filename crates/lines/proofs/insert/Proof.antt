@@ -14,42 +14,42 @@ use Rattle.lines.proofs.insert.Tie as tie
 abbrev lent : tie.Start → Lent
 lent c = lending c.args.floats.now c.args.links.now c.args.scratch.now c.args.numbers.now
 
-returns : tie.Need-returns
+returns : tie.Need-returns-then-run
 unfolding Stands
 returns c =
     let start = c.before.before.before.before.before.before.before.before in
     let a = start.args in
-    let k : most + 1 < a.run.number = omega (arith, c.before.if1.true) in
+    let k : most + 1 < a.run.number = omega (arith, c.before.if-run.true) in
     record {
-      reads = (λ line y. full_read a.run (lent start) start.requires.1.0 start.requires.0 a.row.now start.requires.1.1 k _ c.bad.ensures line y _ _);
+      reads = (λ line y. full_read a.run (lent start) start.requires.stands.0 start.requires.room a.row.now start.requires.stands.1 k _ c.bad.ensures line y _ _);
     }
 
-change-requires : tie.Need-change-requires
+change-requires : tie.Need-change-head-requires
 unfolding Stands settings_of
 change-requires c κs =
     let else1 = c.before.before.before.before in
     let start = else1.before.before.before.before.before.before.before in
     let a = start.args in
-    let k : a.run.number ≤ most + 1 = omega (arith, else1.if1.false) in
-    let long = start.requires.1.1 in (
-      (ready a.run (lent start) start.requires.1.0 start.requires.0 a.row.now, omega arith),
-      workable a.run (lent start) start.requires.1.0 start.requires.0 a.row.now k,
+    let k : a.run.number ≤ most + 1 = omega (arith, else1.if-run.false) in
+    let long = start.requires.stands.1 in (
+      (ready a.run (lent start) start.requires.stands.0 start.requires.room a.row.now, omega arith),
+      workable a.run (lent start) start.requires.stands.0 start.requires.room a.row.now k,
     )
 
-returns-2 : tie.Need-returns-2
+returns-2 : tie.Need-returns
 unfolding Stands
 returns-2 c =
     let change = c.before.before.before.before.before.before.before.before.before in
     let else1 = change.before.before.before.before.before in
     let start = else1.before.before.before.before.before.before.before in
     let a = start.args in
-    let k : a.run.number ≤ most + 1 = omega (arith, else1.if1.false) in
+    let k : a.run.number ≤ most + 1 = omega (arith, else1.if-run.false) in
     record {
-      reads = (λ line y. row_read a.run (lent start) start.requires.1.0 start.requires.0 a.row.now start.requires.1.1 k _
-          change.change.ensures line y);
+      reads = (λ line y. row_read a.run (lent start) start.requires.stands.0 start.requires.room a.row.now start.requires.stands.1 k _
+          change.change-head.ensures line y);
     }
 
-pub insert-spec : {M : Type 1} → statement M
-insert-spec =
+pub insert_spec : {M : Type 1} → statement M
+insert_spec =
     tie.close (tie.spec (λ c. search rules) (λ c κs. search rules) returns change-requires (λ c. search rules) (λ c. search rules) (λ c. search rules)
     (λ c. search rules) (λ c. search rules) returns-2)

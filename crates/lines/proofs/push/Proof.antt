@@ -7,13 +7,13 @@ use Rattle.lines.specs.Lines.{Pushed, pushed_bad, pushed_byte}
 use Rattle.lines.proofs.push.Statement.{statement}
 use Rattle.lines.proofs.push.Tie as tie
 
-returns : tie.Need-returns
+returns : tie.Need-returns-then-long-eq-MOST
 returns c =
     let a = c.before.before.before.args in
     subst (λ (r : Run). Pushed a.run a.b a.line.now r a.line.now) (sym c.bad.ensures)
-    (pushed_bad a.run a.b a.line.now c.before.before.before.requires.0 _ c.before.if1.true)
+    (pushed_bad a.run a.b a.line.now c.before.before.before.requires.0 _ c.before.if-long-eq-MOST.true)
 
-returns-2 : tie.Need-returns-2
+returns-2 : tie.Need-returns
 returns-2 c = let a = c.before.before.before.args in pushed_byte a.run a.b a.line.now c.before.before.before.requires.0 (omega arith)
 
 pub push_spec : {M : Type 1} → statement M

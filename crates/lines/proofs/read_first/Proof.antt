@@ -6,34 +6,34 @@ use Rattle.lines.specs.Heads.{first_taken, roomy, created_read, no_head}
 use Rattle.lines.proofs.read_first.Statement.{statement}
 use Rattle.lines.proofs.read_first.Tie as tie
 
-returns : tie.Need-returns
+returns : tie.Need-returns-in_default
 returns c =
     let start = c.before.before.before.before.before.before.before.before in
     let a = start.args in
     no_head a.run _ c.bad.ensures a.bytes.now a.floats.now a.links.now start.requires.2
-    (first_none _ (sym c.before.before.before.before.first-line.ensures ∙ c.before.before.enum_told.given.1))
+    (first_none _ (sym c.before.before.before.before.first_line.ensures ∙ c.before.before.enum_told-1.given.1))
 
-create-requires : tie.Need-create-requires
+create-requires : tie.Need-create-head-requires
 create-requires c κs =
     let h = c.before.before.before in
     let first-line = h.before.before in
     let start = first-line.before.before.before.before in
     let a = start.args in
-    roomy _ (first_taken a.bytes.now _ (first_some _ _ (sym first-line.first-line.ensures ∙ h.h.given.1))) a.floats.now a.links.now
+    roomy _ (first_taken a.bytes.now _ (first_some _ _ (sym first-line.first_line.ensures ∙ h.in-Head.is))) a.floats.now a.links.now
     start.requires.0 start.requires.1
 
-returns-2 : tie.Need-returns-2
+returns-2 : tie.Need-returns
 returns-2 c =
     let create = c.before.before.before.before in
     let h = create.before.before.before.before in
     let first-line = h.before.before in
     let start = first-line.before.before.before.before in
     let a = start.args in
-    let e = first_some _ _ (sym first-line.first-line.ensures ∙ h.h.given.1) in
+    let e = first_some _ _ (sym first-line.first_line.ensures ∙ h.in-Head.is) in
     created_read _ (first_taken a.bytes.now _ e) a.floats.now a.links.now start.requires.0 start.requires.1 a.run a.bytes.now e _
-    create.create.ensures
+    create.create-head.ensures
 
-pub read-first-spec : {M : Type 1} → statement M
-read-first-spec =
+pub read_first_spec : {M : Type 1} → statement M
+read_first_spec =
     tie.close (tie.spec (λ c κs. search rules) (λ c. search rules) (λ c. search rules) (λ c κs. search rules) (λ c κs. search rules) returns
     create-requires (λ c. search rules) (λ c. search rules) returns-2)

@@ -11,36 +11,36 @@ use Rattle.lines.specs.Rows.{row_says, malformed_read}
 use Rattle.lines.proofs.read_row.Statement.{statement}
 use Rattle.lines.proofs.read_row.Tie as tie
 
-row-line-requires : tie.Need-row-line-requires
+row-line-requires : tie.Need-row_line-requires
 unfolding Stands settings_of
 row-line-requires c κs =
     let start = c.before.before.before.before.before.before.before in
-    let few = (sizes_of start.requires.1.serving).dim_few in omega arith
+    let few = (sizes_of start.requires.stands.serving).dim_few in omega arith
 
-returns : tie.Need-returns
+returns : tie.Need-returns-in_default
 returns c =
     let row_Line = c.before.before.before.before.before in
     let start = row_Line.before.before.before.before.before.before.before.before in
     let a = start.args in
-    malformed_read a.run a.bytes.now a.floats.now a.links.now _ _ row_Line.row_Line.ensures c.before.before.enum-told2.given.1
+    malformed_read a.run a.bytes.now a.floats.now a.links.now _ _ row_Line.row_line.ensures c.before.before.enum_told-in_default-1.given.1
     _ c.bad.ensures
 
-part-insert-end : tie.Need-slice-bounds-insert-end
+part-insert-end : tie.Need-slice_bounds-insert-end
 unfolding Stands settings_of
 part-insert-end c =
     let row_Line = c.before.before.before.before in
     let start = row_Line.before.before.before.before.before.before.before.before in
-    let few = (sizes_of start.requires.1.serving).dim_few in omega (arith, row_Line.row_Line.auto.1.1.0)
+    let few = (sizes_of start.requires.stands.serving).dim_few in omega (arith, row_Line.row_line.auto.1.1.0)
 
 insert-requires : tie.Need-insert-requires
 unfolding Stands settings_of
 insert-requires c κs =
     let row_Line = c.before.before.before.before.before.before.before.before.before in
     let start = row_Line.before.before.before.before.before.before.before.before in
-    let few = (sizes_of start.requires.1.serving).dim_few in
-    (start.requires.0, (start.requires.1, length-take-le _ _ (omega (arith, few, row_Line.row_Line.auto.1.1.0)) ∙ sub-zero _))
+    let few = (sizes_of start.requires.stands.serving).dim_few in
+    (start.requires.room, (start.requires.stands, length-take-le _ _ (omega (arith, few, row_Line.row_line.auto.1.1.0)) ∙ sub-zero _))
 
-returns-2 : tie.Need-returns-2
+returns-2 : tie.Need-returns
 returns-2 c =
     let insert = c.before.before.before.before.before.before.before.before in
     let enum_told = insert.before.before.before.before.before.before.before in
@@ -48,10 +48,10 @@ returns-2 c =
     let start = row_Line.before.before.before.before.before.before.before.before in
     let a = start.args in
     insert.insert.ensures.reads a.bytes.now
-    (row_says a.run a.bytes.now a.floats.now a.links.now _ _ row_Line.row_Line.ensures enum_told.enum_told.given.1)
+    (row_says a.run a.bytes.now a.floats.now a.links.now _ _ row_Line.row_line.ensures enum_told.in-Row.is)
 
-pub read-row-spec : {M : Type 1} → statement M
-read-row-spec =
+pub read_row_spec : {M : Type 1} → statement M
+read_row_spec =
     tie.close (tie.spec (λ c. search rules) row-line-requires (λ c. search rules) (λ c. search rules) (λ c κs. search rules) (λ c κs. search rules) returns
     (λ c. search rules) (λ c. search rules) part-insert-end insert-requires (λ c. search rules) (λ c. search rules) (λ c. search rules)
     (λ c. search rules) returns-2)

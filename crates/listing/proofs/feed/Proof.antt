@@ -8,62 +8,62 @@ use Rattle.lines.specs.Runs.{reads_none, reads_on, reads_all, rest_long, Reading
 use Rattle.listing.proofs.feed.Statement.{statement}
 use Rattle.listing.proofs.feed.Tie as tie
 
-abbrev invariant-loop : tie.invariant-loop
+abbrev invariant-loop : tie.invariant-loop-i
 invariant-loop chunk line₀ floats₀ links₀ scratch₀ numbers₀ r₀ i₀ line floats links scratch numbers r i =
     (i ≤ length chunk) × (length line ≡ length line₀) × (length floats ≡ length floats₀) × (length links ≡ length links₀)
     × (length scratch ≡ length scratch₀) × (length numbers ≡ length numbers₀) × Reading r floats links
     × Reads (printed r₀ line₀ floats₀ links₀) (take i chunk) (printed r line floats links)
 
-abbrev decreases-loop : tie.decreases-loop
+abbrev decreases-loop : tie.decreases-loop-i
 decreases-loop chunk line₀ floats₀ links₀ scratch₀ numbers₀ r₀ i₀ line floats links scratch numbers r i = length chunk - i
 
-loop-holds : tie.Need-loop-init invariant-loop decreases-loop
+loop-holds : tie.Need-loop-i-init invariant-loop decreases-loop
 loop-holds c =
     let start = c.before.before.before.before.before.before in
-    (search rules, refl, refl, refl, refl, refl, start.requires.1, reads_none _)
+    (search rules, refl, refl, refl, refl, refl, start.requires.reading, reads_none _)
 
-piece-requires : tie.Need-piece-requires invariant-loop decreases-loop
+piece-requires : tie.Need-piece-p-requires invariant-loop decreases-loop
 piece-requires c κs =
     let in-loop = c.before.before.before.before.before.before in
     let turn = in-loop.before in
     let start = turn.before.before.before.before.before.before.before in
-    let inv = turn.loop.invariant in (
-      rw (inv.1, inv.2, inv.3, inv.4, inv.5) start.requires.0,
+    let inv = turn.loop-i.invariant in (
+      rw (inv.1, inv.2, inv.3, inv.4, inv.5) start.requires.room,
       (
         inv.6,
         omega (
           arith,
-          rest_long start.args.chunk.now turn.loop.i,
-          in-loop.loop-test.true,
+          rest_long start.args.chunk.now turn.loop-i.i,
+          in-loop.loop-i-test.true,
         ),
       ),
     )
 
-add-i : tie.Need-overflow-add-i invariant-loop decreases-loop
+add-i : tie.Need-overflow_add-i invariant-loop decreases-loop
 add-i c =
     let piece = c.before.before.before.before.before.before.before.before.before.before.before.before in
     let in-loop = piece.before.before.before.before.before.before.before in
     let turn = in-loop.before in
     let start = turn.before.before.before.before.before.before.before in
-    let good = start.well-formed in omega (arith, piece.piece.ensures.0.1, rest_long start.args.chunk.now turn.loop.i, in-loop.loop-test.true)
+    let good = start.well_formed in omega (arith, piece.piece-p.ensures.read_nonzero.1, rest_long start.args.chunk.now turn.loop-i.i, in-loop.loop-i-test.true)
 
-loop-less : tie.Need-loop-smaller invariant-loop decreases-loop
+loop-less : tie.Need-loop-i-smaller invariant-loop decreases-loop
 loop-less c =
     let piece = c.before.before.before.before.before.before.before.before.before.before.before.before in
     let in-loop = piece.before.before.before.before.before.before.before in
     let turn = in-loop.before in
     let start = turn.before.before.before.before.before.before.before in
-    omega (arith, piece.piece.ensures.0.0, piece.piece.ensures.0.1, rest_long start.args.chunk.now turn.loop.i, in-loop.loop-test.true)
+    omega (arith, piece.piece-p.ensures.read_nonzero.0, piece.piece-p.ensures.read_nonzero.1, rest_long start.args.chunk.now turn.loop-i.i, in-loop.loop-i-test.true)
 
-loop-again : tie.Need-loop-preserved invariant-loop decreases-loop
+loop-again : tie.Need-loop-i-preserved invariant-loop decreases-loop
 loop-again c =
     let piece = c.before.before.before.before.before.before.before.before.before.before.before.before in
     let turn = piece.before.before.before.before.before.before.before.before in
     let start = turn.before.before.before.before.before.before.before in
     let chunk = start.args.chunk.now in
-    let new = piece.piece in
+    let new = piece.piece-p in
     let kept = new.auto in
-    let loop = turn.loop in
+    let loop = turn.loop-i in
     let inv = loop.invariant in
     let few : new.result.read ≤ length chunk - loop.i = omega (arith, new.ensures.0.1, rest_long chunk loop.i) in (
       omega (arith, few, inv.0),
@@ -76,30 +76,30 @@ loop-again c =
       reads_on chunk loop.i new.result.read few inv.7 new.ensures.1,
     )
 
-same_length : tie.Need-same-length invariant-loop decreases-loop
-same_length c = c.before.loop.invariant.1
+same_length : tie.Need-shape_of-line invariant-loop decreases-loop
+same_length c = c.before.loop-i.invariant.1
 
-same-length-2 : tie.Need-same-length-2 invariant-loop decreases-loop
-same-length-2 c = c.before.loop.invariant.2
+same-length-2 : tie.Need-shape_of-floats invariant-loop decreases-loop
+same-length-2 c = c.before.loop-i.invariant.2
 
-same-length-3 : tie.Need-same-length-3 invariant-loop decreases-loop
-same-length-3 c = c.before.loop.invariant.3
+same-length-3 : tie.Need-shape_of-links invariant-loop decreases-loop
+same-length-3 c = c.before.loop-i.invariant.3
 
-same-length-4 : tie.Need-same-length-4 invariant-loop decreases-loop
-same-length-4 c = c.before.loop.invariant.4
+same-length-4 : tie.Need-shape_of-scratch invariant-loop decreases-loop
+same-length-4 c = c.before.loop-i.invariant.4
 
-same-length-5 : tie.Need-same-length-5 invariant-loop decreases-loop
-same-length-5 c = c.before.loop.invariant.5
+same-length-5 : tie.Need-shape_of-numbers invariant-loop decreases-loop
+same-length-5 c = c.before.loop-i.invariant.5
 
 returns : tie.Need-returns invariant-loop decreases-loop
 returns c =
     let start = c.before.before.before.before.before.before.before.before in
-    let loop = c.before.loop in
+    let loop = c.before.loop-i in
     let chunk = start.args.chunk.now in
-    let end : length chunk ≤ loop.i = (let rest = c.loop-test.false in omega arith) in
+    let end : length chunk ≤ loop.i = (let rest = c.loop-i-test.false in omega arith) in
     (loop.invariant.6, reads_all chunk loop.i end loop.invariant.7)
 
-pub feed-spec : {M : Type 1} → statement M
-feed-spec =
+pub feed_spec : {M : Type 1} → statement M
+feed_spec =
     tie.close (tie.spec invariant-loop decreases-loop loop-holds (λ c. search rules) (λ c. search rules)
     (λ c. search rules) piece-requires add-i loop-less loop-again same_length same-length-2 same-length-3 same-length-4 same-length-5 returns)

@@ -5,17 +5,17 @@ use Rattle.listing.specs.Chunks.{all_listed}
 use Rattle.listing.proofs.list_in.Statement.{statement}
 use Rattle.listing.proofs.list_in.Tie as tie
 
-feed-requires : tie.Need-feed-requires
+feed-requires : tie.Need-feed-r-requires
 feed-requires c κs =
     let begin = c.before.before.before.before.before in
     let start = begin.before.before.before.before.before.before.before.before in
-    (start.requires.0, begin.begin.ensures.reading _ _)
+    (start.requires.room, begin.begin.ensures.reading _ _)
 
-finish-requires : tie.Need-finish-requires
+finish-requires : tie.Need-finish-end-requires
 finish-requires c κs =
     let feed = c.before.before.before.before.before.before.before.before.before.before.before.before.before.before.before.before in
     let start = feed.before.before.before.before.before.before.before.before.before.before.before.before.before.before in
-    let new = feed.feed in
+    let new = feed.feed-r in
     let kept = new.auto in
     let pre = start.requires in
     (rw (kept.1.1.0, kept.1.1.1.0, kept.1.1.1.1.0, kept.1.1.1.1.1.0, kept.1.1.1.1.1.1.0) pre.0, (new.ensures.0, pre.1))
@@ -28,10 +28,10 @@ returns c =
     let start = at-begin.before.before.before.before.before.before.before.before in
     let a = start.args in
     let begin = at-begin.begin in
-    wrote_is (all_listed begin.result a.line.now a.floats.now a.links.now begin.ensures feed.feed.ensures.1)
-    finish.finish.ensures.0
+    wrote_is (all_listed begin.result a.line.now a.floats.now a.links.now begin.ensures feed.feed-r.ensures.reads)
+    finish.finish-end.ensures.wrote
 
-pub list-in-spec : {M : Type 1} → statement M
-list-in-spec =
+pub list_in_spec : {M : Type 1} → statement M
+list_in_spec =
     tie.close (tie.spec (λ c κs. search rules) feed-requires finish-requires (λ c. search rules) (λ c. search rules) (λ c. search rules)
     (λ c. search rules) (λ c. search rules) (λ c. search rules) returns)

@@ -3,13 +3,13 @@ use Rattle.rules.specs.Tree.{cap}
 use Rattle.lists.proofs.cap.Statement.{statement}
 use Rattle.lists.proofs.cap.Tie as tie
 
-returns : tie.Need-returns
+returns : tie.Need-returns-then-leaf
 unfolding cap
-returns c = rw c.if1.true
+returns c = rw c.if-leaf.true
 
-returns-2 : tie.Need-returns-2
+returns-2 : tie.Need-returns-else-leaf
 unfolding cap
-returns-2 c = rw c.if1.false
+returns-2 c = rw c.if-leaf.false
 
-pub cap-spec : {M : Type 1} → statement M
-cap-spec = tie.close (tie.spec returns returns-2)
+pub cap_spec : {M : Type 1} → statement M
+cap_spec = tie.close (tie.spec returns returns-2)

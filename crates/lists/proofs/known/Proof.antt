@@ -5,13 +5,13 @@ use Rattle.arena.specs.Trees.{count_nodes_lem, count_entries_lem}
 use Rattle.lists.proofs.known.Statement.{statement}
 use Rattle.lists.proofs.known.Tie as tie
 
-returns : tie.Need-returns
+returns : tie.Need-returns-then-leaf
 unfolding known
-returns c = λ fs. rw c.if1.true (sym (count_entries_lem c.before.args.s c.before.args.n fs c.before.args.links.now))
+returns c = λ fs. rw c.if-leaf.true (sym (count_entries_lem c.before.args.s c.before.args.n fs c.before.args.links.now))
 
-returns-2 : tie.Need-returns-2
+returns-2 : tie.Need-returns-else-leaf
 unfolding known
-returns-2 c = λ fs. rw c.if1.false (sym (count_nodes_lem c.before.args.s c.before.args.n fs c.before.args.links.now))
+returns-2 c = λ fs. rw c.if-leaf.false (sym (count_nodes_lem c.before.args.s c.before.args.n fs c.before.args.links.now))
 
-pub known-spec : {M : Type 1} → statement M
-known-spec = tie.close (tie.spec returns returns-2)
+pub known_spec : {M : Type 1} → statement M
+known_spec = tie.close (tie.spec returns returns-2)

@@ -14,43 +14,43 @@ use Rattle.head.specs.Sizes.{nodes_small}
 use Rattle.once.proofs.leaves_len.Statement.{statement}
 use Rattle.once.proofs.leaves_len.Tie as tie
 
-abbrev invariant-loop : tie.invariant-loop
+abbrev invariant-loop : tie.invariant-loop-i
 invariant-loop s n links sum₀ i₀ sum i = (i ≤ n.nodes) × (sum ≤ 17 * i) × AnyFloats s n links (λ t. sum ≡ sum_to (λ k. length (leaf_list (node_at t k))) i)
 
-abbrev decreases-loop : tie.decreases-loop
+abbrev decreases-loop : tie.decreases-loop-i
 decreases-loop s n links sum₀ i₀ sum i = n.nodes - i
 
 -- a block has room for 17 numbers
-few : (c : tie.After-leaf-len invariant-loop decreases-loop) → c.leaf-len.result ≤ 17
+few : (c : tie.After-leaf_len-sum invariant-loop decreases-loop) → c.leaf_len-sum.result ≤ 17
 few c =
     let start = c.before.before.before.before.before in
-    let loop = c.before.before.before.loop in
-    rw (c.leaf-len.ensures []) (leaf-few start.args.s start.args.n [] start.args.links.now _ loop.i start.requires c.before.if1.true)
+    let loop = c.before.before.before.loop-i in
+    rw (c.leaf_len-sum.ensures []) (leaf-few start.args.s start.args.n [] start.args.links.now _ loop.i start.requires c.before.loop-i-test.true)
 
-loop-holds : tie.Need-loop-init invariant-loop decreases-loop
+loop-holds : tie.Need-loop-i-init invariant-loop decreases-loop
 loop-holds c = (omega arith, omega arith, λ fs. sum-none _)
 
-leaf-len-requires : tie.Need-leaf-len-requires invariant-loop decreases-loop
+leaf-len-requires : tie.Need-leaf_len-sum-requires invariant-loop decreases-loop
 leaf-len-requires c κs =
     let start = c.before.before.before.before in
-    (start.requires, c.if1.true)
+    (start.requires, c.loop-i-test.true)
 
-add-sum : tie.Need-overflow-add-sum invariant-loop decreases-loop
+add-sum : tie.Need-overflow_add-sum invariant-loop decreases-loop
 add-sum c =
     let start = c.before.before.before.before.before in
     let q = few c in let k = nodes_small start.args.s start.requires.sized in let m = start.requires.nodes_in in omega arith
 
-loop-again : tie.Need-loop-preserved invariant-loop decreases-loop
+loop-again : tie.Need-loop-i-preserved invariant-loop decreases-loop
 loop-again c =
-    let loop = c.before.before.before.loop in
-    let q = few c in (omega arith, omega arith, λ fs. sum_more _ loop.i (loop.invariant.2 fs) (c.leaf-len.ensures fs))
+    let loop = c.before.before.before.loop-i in
+    let q = few c in (omega arith, omega arith, λ fs. sum_more _ loop.i (loop.invariant.2 fs) (c.leaf_len-sum.ensures fs))
 
 returns : tie.Need-returns invariant-loop decreases-loop
 returns c =
     let start = c.before.before.before.before in
-    let loop = c.before.before.loop in
-    λ fs. sum_end _ _ loop.i (loop.invariant.2 fs) loop.invariant.0 c.if1.false ∙ sym
+    let loop = c.before.before.loop-i in
+    λ fs. sum_end _ _ loop.i (loop.invariant.2 fs) loop.invariant.0 c.loop-i-test.false ∙ sym
     (leaves_length start.args.s start.args.n fs start.args.links.now)
 
-pub leaves-len-spec : {M : Type 1} → statement M
-leaves-len-spec = tie.close (tie.spec invariant-loop decreases-loop loop-holds leaf-len-requires add-sum (λ c. search rules) (λ c. search rules) loop-again returns)
+pub leaves_len_spec : {M : Type 1} → statement M
+leaves_len_spec = tie.close (tie.spec invariant-loop decreases-loop loop-holds leaf-len-requires add-sum (λ c. search rules) (λ c. search rules) loop-again returns)

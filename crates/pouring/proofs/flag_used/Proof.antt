@@ -8,23 +8,23 @@ use Rattle.pouring.specs.Used.{flagged}
 use Rattle.pouring.proofs.flag_used.Statement.{statement}
 use Rattle.pouring.proofs.flag_used.Tie as tie
 
-returns : tie.Need-returns
+returns : tie.Need-returns-then-weight
 unfolding used
 returns c =
     let start = c.before.before.before.before in (
-      λ ls. sym c.if1.true ∙ ap (lt f0) (c.before.weight.ensures ls),
+      λ ls. sym c.if-weight.true ∙ ap (lt f0) (c.before.weight.ensures ls),
       flagged start.args.numbers.now start.args.i 1 start.requires.2,
     )
 
-returns-2 : tie.Need-returns-2
+returns-2 : tie.Need-returns
 unfolding used
 returns-2 c =
     let start = c.before.before.before.before in (
-      λ ls. sym c.if1.false ∙ ap (lt f0) (c.before.weight.ensures ls),
+      λ ls. sym c.if-weight.false ∙ ap (lt f0) (c.before.weight.ensures ls),
       flagged start.args.numbers.now start.args.i 0 start.requires.2,
     )
 
-pub flag-used-spec : {M : Type 1} → statement M
-flag-used-spec =
+pub flag_used_spec : {M : Type 1} → statement M
+flag_used_spec =
     tie.close (tie.spec (λ c. search rules) (λ c. search rules) (λ c κs. search rules) (λ c. search rules) (λ c. search rules) (λ c. search rules) returns
     (λ c. search rules) (λ c. search rules) (λ c. search rules) returns-2)

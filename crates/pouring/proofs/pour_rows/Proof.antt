@@ -15,19 +15,19 @@ use Rattle.pouring.proofs.pour_rows.Statement.{statement}
 use Rattle.rules.specs.Route.{greedy}
 use Rattle.pouring.proofs.pour_rows.Tie as tie
 
-abbrev invariant-loop : tie.invariant-loop
+abbrev invariant-loop : tie.invariant-loop-k
 invariant-loop s n floats links scratch₀ rows count k₀ scratch k =
     let t = tree_of s n floats links in
     (length scratch ≡ length scratch₀) × (poured_from s n t rows count k scratch ≡ poured s (greedy s t) (rows_of count s.dim rows) (slots_in s scratch₀ n.entries))
 
-abbrev decreases-loop : tie.decreases-loop
+abbrev decreases-loop : tie.decreases-loop-k
 decreases-loop s n floats links scratch₀ rows count k₀ scratch k = count - k
 
 -- the start, from a turn; a turn, from its row read
-abbrev start : tie.At-loop invariant-loop decreases-loop → tie.Start invariant-loop decreases-loop
+abbrev start : tie.At-loop-k invariant-loop decreases-loop → tie.Start invariant-loop decreases-loop
 start c = c.before.before.before.before.before
 
-abbrev turn : tie.After-row invariant-loop decreases-loop → tie.At-loop invariant-loop decreases-loop
+abbrev turn : tie.After-row-x invariant-loop decreases-loop → tie.At-loop-k invariant-loop decreases-loop
 turn c = c.before.before
 
 -- the tree as it is lent
@@ -35,64 +35,64 @@ abbrev tree : tie.Start invariant-loop decreases-loop → Tree
 tree c = tree_of c.args.s c.args.n c.args.floats.now c.args.links.now
 
 -- the row is as wide as a row
-wide : (c : tie.After-row invariant-loop decreases-loop) → length c.row.result.now ≡ (start (turn c)).args.s.dim
+wide : (c : tie.After-row-x invariant-loop decreases-loop) → length c.row-x.result.now ≡ (start (turn c)).args.s.dim
 wide c =
     let start = start (turn c) in
     let a = start.args in
-    let there = row_there a.s a.count (turn c).loop.k (length a.rows.now) c.before.loop-test.true start.pre.1.0 in
-    ap length c.row.ensures ∙ row_wide a.s a.rows.now (turn c).loop.k there
+    let there = row_there a.s a.count (turn c).loop-k.k (length a.rows.now) c.before.loop-k-test.true start.requires.dim_in_bounds.0 in
+    ap length c.row-x.ensures ∙ row_wide a.s a.rows.now (turn c).loop-k.k there
 
-loop-holds : tie.Need-loop-init invariant-loop decreases-loop
+loop-holds : tie.Need-loop-k-init invariant-loop decreases-loop
 loop-holds c =
     let start = c.before.before.before.before in
     let a = start.args in
     (refl, pour_start a.s a.n (tree start) a.rows.now a.count a.scratch.now)
 
-row-requires : tie.Need-row-requires invariant-loop decreases-loop
+row-requires : tie.Need-row-x-requires invariant-loop decreases-loop
 row-requires c κs =
     let start = start c.before in
-    row_there start.args.s start.args.count c.before.loop.k (length start.args.rows.now) c.loop-test.true start.pre.1.0
+    row_there start.args.s start.args.count c.before.loop-k.k (length start.args.rows.now) c.loop-k-test.true start.requires.dim_in_bounds.0
 
-route-requires : tie.Need-route-requires invariant-loop decreases-loop
+route-requires : tie.Need-route-e-requires invariant-loop decreases-loop
 route-requires c κs =
     let start = start (turn c) in
-    ((start.pre.0.0, start.pre.0.1, omega (arith, wide c)), start.pre.1.1)
+    ((start.requires.floats.0, start.requires.floats.1, omega (arith, wide c)), start.requires.dim_in_bounds.1)
 
 push-requires : tie.Need-push-requires invariant-loop decreases-loop
 push-requires c κs =
     let read = c.before.before in
     let start = start (turn read) in
-    let here = c.before.route.ensures.1 in (
-      rw (turn read).loop.invariant.0
-          (slot_there start.args.s _ _ start.pre.0.0.sized start.pre.0.2 (omega (arith, here, start.pre.0.0.entries_in))),
+    let here = c.before.route-e.ensures.upper_bound in (
+      rw (turn read).loop-k.invariant.0
+          (slot_there start.args.s _ _ start.requires.floats.0.sized start.requires.floats.2 (omega (arith, here, start.requires.floats.0.entries_in))),
       omega (arith, wide read),
     )
 
-loop-again : tie.Need-loop-preserved invariant-loop decreases-loop
+loop-again : tie.Need-loop-k-preserved invariant-loop decreases-loop
 loop-again c =
     let push = c.before.before in
     let route = push.before.before in
     let read = route.before in
-    let loop = (turn read).loop in
+    let loop = (turn read).loop-k in
     let start = start (turn read) in
     let a = start.args in (
       push.push.auto.1.0 ∙ loop.inv.0,
-      pour_turn a.s a.n (tree start) a.rows.now a.count loop.k _ _ loop.scratch _ read.before.loop-test.true
-          route.route.ensures.1 read.row.ensures route.route.ensures.0 push.push.ensures
+      pour_turn a.s a.n (tree start) a.rows.now a.count loop.k _ _ loop.scratch _ read.before.loop-k-test.true
+          route.route-e.ensures.upper_bound read.row-x.ensures route.route-e.ensures.value push.push.ensures
           ∙ loop.inv.1,
     )
 
-same_length : tie.Need-same-length invariant-loop decreases-loop
-same_length c = c.before.loop.invariant.0
+same_length : tie.Need-shape_of-scratch invariant-loop decreases-loop
+same_length c = c.before.loop-k.invariant.0
 
 returns : tie.Need-returns invariant-loop decreases-loop
 returns c =
-    let loop = c.before.loop in
+    let loop = c.before.loop-k in
     let start = start c.before in
     let a = start.args in
-    pour_end a.s a.n (tree start) a.rows.now a.count loop.k loop.scratch c.loop-test.false ∙ loop.invariant.1
+    pour_end a.s a.n (tree start) a.rows.now a.count loop.k loop.scratch c.loop-k-test.false ∙ loop.invariant.1
 
-pub pour-rows-spec : {M : Type 1} → statement M
-pour-rows-spec =
+pub pour_rows_spec : {M : Type 1} → statement M
+pour_rows_spec =
     tie.close (tie.spec invariant-loop decreases-loop loop-holds row-requires route-requires push-requires (λ c. search rules) (λ c. search rules) loop-again same_length
     returns)

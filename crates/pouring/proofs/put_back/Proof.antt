@@ -11,48 +11,48 @@ use Rattle.pouring.specs.Pouring.{PutBack, put_start, put_turn, put_end}
 use Rattle.pouring.proofs.put_back.Statement.{statement}
 use Rattle.pouring.proofs.put_back.Tie as tie
 
-abbrev invariant-loop : tie.invariant-loop
+abbrev invariant-loop : tie.invariant-loop-i
 invariant-loop s n floats₀ scratch i₀ floats i = (length floats ≡ length floats₀) × PutBack s n floats₀ (slots_in s scratch n.entries) i floats
 
-abbrev decreases-loop : tie.decreases-loop
+abbrev decreases-loop : tie.decreases-loop-i
 decreases-loop s n floats₀ scratch i₀ floats i = n.entries - i
 
-loop-holds : tie.Need-loop-init invariant-loop decreases-loop
+loop-holds : tie.Need-loop-i-init invariant-loop decreases-loop
 loop-holds c = let a = c.before.before.args in (refl, put_start a.s a.n a.floats.now a.scratch.now)
 
 load-requires : tie.Need-load-requires invariant-loop decreases-loop
 load-requires c κs =
     let start = c.before.before.before.before.before.before in
-    slot_there _ _ _ start.requires.0.sized start.requires.1 (omega (arith, c.before.if1.true, start.requires.0.entries_in))
+    slot_there _ _ _ start.requires.0.sized start.requires.1 (omega (arith, c.before.loop-i-test.true, start.requires.0.entries_in))
 
 put-requires : tie.Need-put-requires invariant-loop decreases-loop
 put-requires c κs =
     let start = c.before.before.before.before.before.before.before in
     let s = start.args.s in (
-      rw c.before.before.before.before.loop.invariant.0 start.requires.0,
-      c.before.before.if1.true,
+      rw c.before.before.before.before.loop-i.invariant.0 start.requires.0,
+      c.before.before.loop-i-test.true,
       subst (Shaped s.feature s.dim) (sym c.load.ensures) (slot_shaped s start.requires.0.sized start.args.scratch.now _),
     )
 
-loop-again : tie.Need-loop-preserved invariant-loop decreases-loop
+loop-again : tie.Need-loop-i-preserved invariant-loop decreases-loop
 loop-again c =
     let put = c.before.before in
-    let loop = put.before.before.before.before.before.loop in
+    let loop = put.before.before.before.before.before.loop-i in
     let a = put.before.before.before.before.before.before.before.before.args in (
       put.put.auto.1.1.0 ∙ loop.invariant.0,
-      put_turn a.s a.n a.floats.now a.scratch.now loop.i loop.floats loop.invariant.1 _ _ put.before.before.before.if1.true
+      put_turn a.s a.n a.floats.now a.scratch.now loop.i loop.floats loop.invariant.1 _ _ put.before.before.before.loop-i-test.true
           put.before.load.ensures put.put.ensures,
     )
 
-same_length : tie.Need-same-length invariant-loop decreases-loop
-same_length c = c.before.before.loop.invariant.0
+same_length : tie.Need-shape_of-floats invariant-loop decreases-loop
+same_length c = c.before.before.loop-i.invariant.0
 
 returns : tie.Need-returns invariant-loop decreases-loop
 returns c =
     let a = c.before.before.before.before.before.args in
-    let loop = c.before.before.loop in
-    put_end a.s a.n a.floats.now a.scratch.now loop.i loop.floats loop.invariant.1 c.if1.false
+    let loop = c.before.before.loop-i in
+    put_end a.s a.n a.floats.now a.scratch.now loop.i loop.floats loop.invariant.1 c.loop-i-test.false
 
-pub put-back-spec : {M : Type 1} → statement M
-put-back-spec =
+pub put_back_spec : {M : Type 1} → statement M
+put_back_spec =
     tie.close (tie.spec invariant-loop decreases-loop loop-holds load-requires put-requires (λ c. search rules) (λ c. search rules) loop-again same_length returns)

@@ -10,10 +10,10 @@ use Rattle.pouring.proofs.reaccumulate.Tie as tie
 abbrev start : tie.After-pour → tie.Start
 start c = c.before.before.before.before.before.before.before.before
 
-abbrev poured : tie.After-put-back → tie.After-pour
+abbrev poured : tie.After-put_back → tie.After-pour
 poured c = c.before.before.before.before.before
 
-abbrev put : tie.After-flag-all → tie.After-put-back
+abbrev put : tie.After-flag_all → tie.After-put_back
 put c = c.before.before.before.before.before
 
 -- the tree as it is lent
@@ -27,10 +27,10 @@ returns c =
     let poured = poured put in
     let start = start poured in
     let links = start.args.links.now in
-    afresh start.args.s _ (tree start) _ _ _ _ poured.pour.ensures (put.put_back.ensures links) (flagged.flag-all.ensures.0 links)
-    flagged.flag-all.ensures.1
+    afresh start.args.s _ (tree start) _ _ _ _ poured.pour.ensures (put.put_back.ensures links) (flagged.flag_all.ensures.any_links links)
+    flagged.flag_all.ensures.value
 
-pub reaccumulate-spec : {M : Type 1} → statement M
-reaccumulate-spec =
+pub reaccumulate_spec : {M : Type 1} → statement M
+reaccumulate_spec =
     tie.close (tie.spec (λ c κs. search rules) (λ c κs. search rules) (λ c κs. search rules) (λ c. search rules) (λ c. search rules) (λ c. search rules)
     returns)

@@ -8,52 +8,52 @@ use Rattle.reasons.specs.Reasons.{reason_of, first_reason}
 use Rattle.reasons.proofs.first.Statement.{statement}
 use Rattle.reasons.proofs.first.Tie as tie
 
-returns : tie.Need-returns
+returns : tie.Need-returns-then-line-gt-MOST
 unfolding first_reason reason_of
-returns c = rw (lt-leb _ _ c.if1.true)
+returns c = rw (lt-leb _ _ c.if-line-gt-MOST.true)
 
-returns-2 : tie.Need-returns-2
+returns-2 : tie.Need-returns-then-ends_in_return
 unfolding first_reason reason_of
-returns-2 c = rw (le-leb _ _ c.before.before.if1.false, ← c.before.ends-in-return.ensures, c.if2.true)
+returns-2 c = rw (le-leb _ _ c.before.before.if-line-gt-MOST.false, ← c.before.ends_in_return.ensures, c.if-ends_in_return.true)
 
-returns-3 : tie.Need-returns-3
+returns-3 : tie.Need-returns-then-n-ne8
 unfolding first_reason reason_of
 returns-3 c =
-    let count = c.before.field-count.ensures in
+    let count = c.before.field_count-n.ensures in
     rw (
       count,
-      le-leb _ _ c.before.before.before.before.if1.false,
-      ← c.before.before.before.ends-in-return.ensures,
-      c.before.before.if2.false,
-      ne_eqb _ _ (λ e. c.if3.true (count ∙ e)),
+      le-leb _ _ c.before.before.before.before.if-line-gt-MOST.false,
+      ← c.before.before.before.ends_in_return.ensures,
+      c.before.before.if-ends_in_return.false,
+      ne_eqb _ _ (λ e. c.if-n-ne8.true (count ∙ e)),
     )
 
 -- the fields are eight
-eight : (c : tie.Else3) → length (fields_of c.before.before.before.before.before.before.args.line.now) ≡ 8
-eight c = sym c.before.field-count.ensures ∙ c.if3.false
+eight : (c : tie.Else-n-ne8) → length (fields_of c.before.before.before.before.before.before.args.line.now) ≡ 8
+eight c = sym c.before.field_count-n.ensures ∙ c.if-n-ne8.false
 
-returns-4 : tie.Need-returns-4
+returns-4 : tie.Need-returns-then-k-lt8
 unfolding first_reason reason_of
 returns-4 c =
     rw (
-      le-leb _ _ c.before.before.before.before.before.before.if1.false,
-      ← c.before.before.before.before.before.ends-in-return.ensures,
-      c.before.before.before.before.if2.false,
+      le-leb _ _ c.before.before.before.before.before.before.if-line-gt-MOST.false,
+      ← c.before.before.before.before.before.ends_in_return.ensures,
+      c.before.before.before.before.if-ends_in_return.false,
       eq-eqb _ _ (eight c.before.before),
-      ← c.before.settings.ensures,
-      lt-ltb _ _ c.if4.true,
+      ← c.before.settings-k.ensures,
+      lt-ltb _ _ c.if-k-lt8.true,
     )
 
-returns-5 : tie.Need-returns-5
+returns-5 : tie.Need-returns
 unfolding first_reason reason_of
 returns-5 c =
     rw (
-      le-leb _ _ c.before.before.before.before.before.before.if1.false,
-      ← c.before.before.before.before.before.ends-in-return.ensures,
-      c.before.before.before.before.if2.false,
+      le-leb _ _ c.before.before.before.before.before.before.if-line-gt-MOST.false,
+      ← c.before.before.before.before.before.ends_in_return.ensures,
+      c.before.before.before.before.if-ends_in_return.false,
       eq-eqb _ _ (eight c.before.before),
-      ← c.before.settings.ensures,
-      le-ltb _ _ c.if4.false,
+      ← c.before.settings-k.ensures,
+      le-ltb _ _ c.if-k-lt8.false,
     )
 
 pub first_spec : {M : Type 1} → statement M

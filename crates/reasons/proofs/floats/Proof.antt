@@ -11,40 +11,40 @@ use Rattle.reasons.specs.Reasons.{is_some, float_at, wrong_at, wrong_stop, wrong
 use Rattle.reasons.proofs.floats.Statement.{statement}
 use Rattle.reasons.proofs.floats.Tie as tie
 
-abbrev invariant-loop : tie.invariant-loop
+abbrev invariant-loop : tie.invariant-loop-k
 invariant-loop line n k₀ k = (k ≤ n) × (wrong_at float_at k (drop k (fields_of line)) ≡ wrong_at float_at 0 (fields_of line))
 
-abbrev decreases-loop : tie.decreases-loop
+abbrev decreases-loop : tie.decreases-loop-k
 decreases-loop line n k₀ k = n - k
 
-loop-holds : tie.Need-loop-init invariant-loop decreases-loop
+loop-holds : tie.Need-loop-k-init invariant-loop decreases-loop
 loop-holds c = (search rules, refl)
 
 -- whether field k is as asked
-is : (c : tie.After-is-float invariant-loop decreases-loop) → let loop = c.before.before.before.loop in
-    float_at loop.k (get_or (fields_of c.before.before.before.before.before.args.line.now) loop.k []) ≡ c.is-float.result
+is : (c : tie.After-is_float invariant-loop decreases-loop) → let loop = c.before.before.before.loop-k in
+    float_at loop.k (get_or (fields_of c.before.before.before.before.before.args.line.now) loop.k []) ≡ c.is_float.result
 unfolding float_at
-is c = sym (c.is-float.ensures ∙ ap (λ f. is_some (hex_float f)) c.before.field.ensures)
+is c = sym (c.is_float.ensures ∙ ap (λ f. is_some (hex_float f)) c.before.field.ensures)
 
-returns : tie.Need-returns invariant-loop decreases-loop
+returns : tie.Need-returns-then-not-is_float invariant-loop decreases-loop
 returns c =
-    let loop = c.before.before.before.before.loop in
+    let loop = c.before.before.before.before.loop-k in
     let pre = c.before.before.before.before.before.before.requires in
-    sym (wrong_stop float_at _ loop.k (omega (arith, pre)) (is c.before ∙ not-true _ c.if1.true)) ∙ loop.invariant.1
+    sym (wrong_stop float_at _ loop.k (omega (arith, pre)) (is c.before ∙ not-true _ c.if-not-is_float.true-raw)) ∙ loop.invariant.1
 
-loop-again : tie.Need-loop-preserved invariant-loop decreases-loop
+loop-again : tie.Need-loop-k-preserved invariant-loop decreases-loop
 loop-again c =
-    let loop = c.before.before.before.before.loop in
+    let loop = c.before.before.before.before.loop-k in
     let pre = c.before.before.before.before.before.before.requires in
-    (omega arith, wrong_more float_at _ loop.k (omega (arith, pre)) (is c.before ∙ not-false _ c.if1.false) ∙ loop.invariant.1)
+    (omega arith, wrong_more float_at _ loop.k (omega (arith, pre)) (is c.before ∙ not-false _ c.if-not-is_float.false-raw) ∙ loop.invariant.1)
 
-returns-2 : tie.Need-returns-2 invariant-loop decreases-loop
+returns-2 : tie.Need-returns invariant-loop decreases-loop
 returns-2 c =
-    let loop = c.before.loop in
+    let loop = c.before.loop-k in
     let pre = c.before.before.before.requires in
     sym (wrong_end float_at _ loop.k (omega (arith, pre))) ∙ loop.invariant.1
 
-pub floats-spec : {M : Type 1} → statement M
-floats-spec =
+pub floats_spec : {M : Type 1} → statement M
+floats_spec =
     tie.close (tie.spec invariant-loop decreases-loop loop-holds (λ c κs. search rules) (λ c κs. search rules) returns (λ c. search rules) (λ c. search rules)
     loop-again returns-2)

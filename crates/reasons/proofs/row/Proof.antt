@@ -5,39 +5,39 @@ use Rattle.reasons.specs.Reasons.{reason_of, row_reason}
 use Rattle.reasons.proofs.row.Statement.{statement}
 use Rattle.reasons.proofs.row.Tie as tie
 
-returns : tie.Need-returns
+returns : tie.Need-returns-then-line-gt-MOST
 unfolding row_reason reason_of
-returns c = rw (lt-leb _ _ c.if1.true)
+returns c = rw (lt-leb _ _ c.if-line-gt-MOST.true)
 
-returns-2 : tie.Need-returns-2
+returns-2 : tie.Need-returns-then-ends_in_return
 unfolding row_reason reason_of
-returns-2 c = rw (le-leb _ _ c.before.before.if1.false, ← c.before.ends-in-return.ensures, c.if2.true)
+returns-2 c = rw (le-leb _ _ c.before.before.if-line-gt-MOST.false, ← c.before.ends_in_return.ensures, c.if-ends_in_return.true)
 
-returns-3 : tie.Need-returns-3
+returns-3 : tie.Need-returns-then-k-n
 unfolding row_reason reason_of
 returns-3 c =
     rw (
-      le-leb _ _ c.before.before.before.before.before.if1.false,
-      ← c.before.before.before.before.ends-in-return.ensures,
-      c.before.before.before.if2.false,
-      ← c.before.before.field-count.ensures,
-      ← c.before.floats.ensures,
-      lt-ltb _ _ c.if3.true,
+      le-leb _ _ c.before.before.before.before.before.if-line-gt-MOST.false,
+      ← c.before.before.before.before.ends_in_return.ensures,
+      c.before.before.before.if-ends_in_return.false,
+      ← c.before.before.field_count-n.ensures,
+      ← c.before.floats-k.ensures,
+      lt-ltb _ _ c.if-k-n.true,
     )
 
-returns-4 : tie.Need-returns-4
+returns-4 : tie.Need-returns
 unfolding row_reason reason_of
 returns-4 c =
     rw (
-      le-leb _ _ c.before.before.before.before.before.if1.false,
-      ← c.before.before.before.before.ends-in-return.ensures,
-      c.before.before.before.if2.false,
-      ← c.before.before.field-count.ensures,
-      ← c.before.floats.ensures,
-      le-ltb _ _ c.if3.false,
+      le-leb _ _ c.before.before.before.before.before.if-line-gt-MOST.false,
+      ← c.before.before.before.before.ends_in_return.ensures,
+      c.before.before.before.if-ends_in_return.false,
+      ← c.before.before.field_count-n.ensures,
+      ← c.before.floats-k.ensures,
+      le-ltb _ _ c.if-k-n.false,
     )
 
-pub row-spec : {M : Type 1} → statement M
-row-spec =
-    tie.close (tie.spec returns (λ c κs. search rules) returns-2 (λ c κs. search rules) (λ c κs. c.field-count.ensures) (λ c. search rules)
+pub row_spec : {M : Type 1} → statement M
+row_spec =
+    tie.close (tie.spec returns (λ c κs. search rules) returns-2 (λ c κs. search rules) (λ c κs. c.field_count-n.ensures) (λ c. search rules)
     returns-3 returns-4)

@@ -13,10 +13,10 @@ use Rattle.head.specs.Counting.{with_merged}
 use Rattle.rebuild.proofs.compact.Tie as tie
 
 -- the start, from the merged ones dropped, and these, from the merged total set to 0
-abbrev start : tie.After-drop-merged → tie.Start
+abbrev start : tie.After-drop_merged-m → tie.Start
 start c = c.before.before.before.before.before.before.before.before
 
-abbrev dropping : tie.After-with-merged → tie.After-drop-merged
+abbrev dropping : tie.After-with_merged → tie.After-drop_merged-m
 dropping c = c.before.before.before.before.before.before.before.before.before
 
 reinsert-requires : tie.Need-reinsert-requires
@@ -25,52 +25,52 @@ reinsert-requires c κs =
     let dropped = dropping zeroed in
     let start = start dropped in
     let a = start.args in
-    let drop = dropped.drop-merged in
-    let zero = zeroed.with-merged.ensures in
-    let same = zero_same drop.result zeroed.with-merged.result zero in
+    let drop = dropped.drop_merged-m in
+    let zero = zeroed.with_merged.ensures in
+    let same = zero_same drop.result zeroed.with_merged.result zero in
     let left = drop.ensures.0 in
-    let numbers = start.pre.0.2.numbers_in in
+    let numbers = start.requires.floats.2.numbers_in in
     let kept = drop.kept.1.1.1.1.0 in (
       (
         rw drop.kept.1.1.0
-            (floats_as a.s drop.result _ same (floats-kept a.s a.n drop.result a.numbers.now left start.pre.0.0)),
+            (floats_as a.s drop.result _ same (floats-kept a.s a.n drop.result a.numbers.now left start.requires.floats.0)),
         rw drop.kept.1.1.1.0
-            (links_as a.s drop.result _ same (links_kept a.s a.n drop.result a.numbers.now left start.pre.0.1)),
+            (links_as a.s drop.result _ same (links_kept a.s a.n drop.result a.numbers.now left start.requires.floats.1)),
       ),
       (
-        (start.pre.0.2.floats_in_lem, omega arith),
-        subst (Reinsertable a.s) (sym (merged-zero a.s _ _ drop.result zeroed.with-merged.result zero ∙ ap (on_running (with_merged 0)) drop.ensures.1))
-            start.pre.1.again,
+        (start.requires.floats.2.floats_in_lem, omega arith),
+        subst (Reinsertable a.s) (sym (merged-zero a.s _ _ drop.result zeroed.with_merged.result zero ∙ ap (on_running (with_merged 0)) drop.ensures.1))
+            start.requires.compactable.again,
       ),
     )
 
-returns : tie.Need-returns
+returns : tie.Need-returns-then-due
 returns c =
     let due = c.before.before.before.before.before.before.before.before.before.before.before.before.before.before.before.due in
-    let test = c.before.before.before.before.before.before.before.before.before.before.before.before.before.before.if1 in
+    let test = c.before.before.before.before.before.before.before.before.before.before.before.before.before.before.if-due in
     let zeroed = c.before.before.before.before.before.before.before.before.before.before.before.before.before in
     let dropped = dropping zeroed in
-    let drop = dropped.drop-merged in
+    let drop = dropped.drop_merged-m in
     let a = (start dropped).args in
     let new = c.before.before.before.before.before.before.before.before.reinsert in (
       (rw drop.kept.1.1.0 at new.ensures.0.0, rw drop.kept.1.1.1.0 at new.ensures.0.1),
-      placed-again a.s a.across drop.result _ _ drop.ensures.1 zeroed.with-merged.result (sym due.ensures ∙ test.true)
-          zeroed.with-merged.ensures new.ensures.1,
+      placed-again a.s a.across drop.result _ _ drop.ensures.1 zeroed.with_merged.result (sym due.ensures ∙ test.true)
+          zeroed.with_merged.ensures new.ensures.1,
     )
 
-returns-2 : tie.Need-returns-2
+returns-2 : tie.Need-returns
 returns-2 c =
     let start = c.before.before.before.before.before.before.before.before.before.before.before.before.before.before.before.before in
     let a = start.args in
-    let drop = c.before.before.before.before.before.before.before.before.drop-merged in (
+    let drop = c.before.before.before.before.before.before.before.before.drop_merged-m in (
       (
-        floats-kept a.s a.n drop.result a.numbers.now drop.ensures.0 start.requires.0.0,
-        links_kept a.s a.n drop.result a.numbers.now drop.ensures.0 start.requires.0.1,
+        floats-kept a.s a.n drop.result a.numbers.now drop.ensures.0 start.requires.floats.0,
+        links_kept a.s a.n drop.result a.numbers.now drop.ensures.0 start.requires.floats.1,
       ),
-      left-placed a.s a.across drop.result _ _ drop.ensures.1 (sym c.before.due.ensures ∙ c.if1.false),
+      left-placed a.s a.across drop.result _ _ drop.ensures.1 (sym c.before.due.ensures ∙ c.if-due.false),
     )
 
-pub compact-spec : {M : Type 1} → statement M
-compact-spec = tie.close
+pub compact_spec : {M : Type 1} → statement M
+compact_spec = tie.close
     (tie.spec (λ c κs. search rules) (λ c κs. search rules) (λ c κs. search rules) reinsert-requires (λ c. search rules) (λ c. search rules)
     (λ c. search rules) (λ c. search rules) returns (λ c. search rules) (λ c. search rules) (λ c. search rules) returns-2)

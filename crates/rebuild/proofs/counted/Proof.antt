@@ -6,11 +6,11 @@ use borrow.Author.Tests.{lt-ltb, le-ltb}
 use Rattle.rebuild.proofs.counted.Statement.{statement}
 use Rattle.rebuild.proofs.counted.Tie as tie
 
-returns : tie.Need-returns
-returns c = c.with-rebuilds.ensures ∙ counted_more _ (lt-ltb _ _ c.before.if1.true)
+returns : tie.Need-returns-then-r-lt18446744073709551615
+returns c = c.with_rebuilds.ensures ∙ counted_more _ (lt-ltb _ _ c.before.if-r-lt18446744073709551615.true)
 
-returns-2 : tie.Need-returns-2
-returns-2 c = counted_top _ (le-ltb _ _ c.if1.false)
+returns-2 : tie.Need-returns-else-r-lt18446744073709551615
+returns-2 c = counted_top _ (le-ltb _ _ c.if-r-lt18446744073709551615.false)
 
 pub counted_spec : {M : Type 1} → statement M
 counted_spec = tie.close (tie.spec (λ c. search rules) (λ c κs. search rules) returns returns-2)

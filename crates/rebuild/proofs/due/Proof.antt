@@ -3,8 +3,8 @@ use borrow.Author.Rules.{rules}
 use Rattle.rebuild.proofs.due.Statement.{statement}
 use Rattle.rebuild.proofs.due.Tie as tie
 
-returns-2 : tie.Need-returns-2
-returns-2 c = rw c.before.before.if1.false
+returns-2 : tie.Need-returns
+returns-2 c = rw c.before.before.if-across.false
 
-pub due-spec : {M : Type 1} → statement M
-due-spec = tie.close (tie.spec (λ c. search rules) returns-2)
+pub due_spec : {M : Type 1} → statement M
+due_spec = tie.close (tie.spec (λ c. search rules) returns-2)

@@ -13,33 +13,33 @@ start c = c.before.before.before.before.before.before
 sort-requires : tie.Need-sort-requires
 sort-requires c κs =
     let start = c.before.before.before.before.before in
-    some_room start.args.s start.requires.0.1 start.args.pairs start.requires.0.2
+    some_room start.args.s start.requires.floats.1 start.args.pairs start.requires.floats.2
 
-merge-pairs-requires : tie.Need-merge-pairs-requires
+merge-pairs-requires : tie.Need-merge_pairs-requires
 merge-pairs-requires c κs =
     let revive = c.before.before.before.before.before.revive in
     let paired = c.before.before.before.before.before.before.before.before.before.before.before in
     let start = start paired in
-    let room = (some_room start.args.s start.pre.0.1 start.args.pairs start.pre.0.2).numbers_in in
-    let all = start.pre.0.1.numbers_in in
-    let entries = start.pre.0.0.entries_in in
+    let room = (some_room start.args.s start.requires.floats.1 start.args.pairs start.requires.floats.2).numbers_in in
+    let all = start.requires.floats.1.numbers_in in
+    let entries = start.requires.floats.0.entries_in in
     let first = paired.sort.auto.1.0 in
     let second = revive.auto.0 in (
-      (start.pre.0.0, omega arith, omega arith),
-      sorted-below start.args.s start.args.n _ start.args.pairs _ _ _ paired.sort.ensures revive.ensures.1 start.pre.1.1,
+      (start.requires.floats.0, omega arith, omega arith),
+      sorted-below start.args.s start.args.n _ start.args.pairs _ _ _ paired.sort.ensures revive.ensures.1 start.requires.max_leaves_bound.1,
     )
 
 returns : tie.Need-returns
 returns c =
     let revive = c.before.before.before.before.before.before.before.before.before.before.revive in
     let wanted = c.before.before.before.before.before.wanted in
-    let merge-pairs = c.before.before.before.before.merge-pairs in
+    let merge-pairs = c.before.before.before.before.merge_pairs in
     let paired = c.before.before.before.before.before.before.before.before.before.before.before.before.before.before.before.before in
     let start = start paired in
     all-merged start.args.s start.args.n _ start.args.pairs _ _ _ paired.sort.ensures revive.ensures.1 _ merge-pairs.result _ _ _
     wanted.ensures revive.ensures.0 merge-pairs.ensures
 
-pub merge-cheapest-spec : {M : Type 1} → statement M
-merge-cheapest-spec = tie.close
+pub merge_cheapest_spec : {M : Type 1} → statement M
+merge_cheapest_spec = tie.close
     (tie.spec sort-requires (λ c κs. search rules) (λ c κs. search rules) merge-pairs-requires (λ c. search rules) (λ c. search rules) (λ c. search rules)
     returns)

@@ -14,7 +14,7 @@ abbrev tree : tie.Start → Tree
 tree c = tree_of c.args.s c.args.n c.args.floats.now c.args.links.now
 
 -- the start, from the merges done
-abbrev start : tie.After-merge → tie.Start
+abbrev start : tie.After-merge-m → tie.Start
 start c = c.before.before.before.before.before.before.before.before.before
 
 refold-requires : tie.Need-refold-requires
@@ -22,12 +22,12 @@ refold-requires c κs =
     let merged = c.before.before.before.before.before.before.before.before.before.before.before in
     let start = start merged in
     let s = start.args.s in
-    let done = merged.merge in
-    let stands = merged-standing s (tree start) start.pre.1 start.pre.0.0.sized in (
+    let done = merged.merge-m in
+    let stands = merged-standing s (tree start) start.requires.rebuildable start.requires.floats.0.sized in (
       (
         rw done.auto.1.1.0 done.ensures.0.0,
         rw done.auto.1.1.1.0 done.ensures.0.1,
-        rw done.auto.1.1.1.1.0 start.pre.0.2.floats_in_lem,
+        rw done.auto.1.1.1.1.0 start.requires.floats.2.floats_in_lem,
       ),
       rw done.ensures.1 stands,
     )
@@ -39,14 +39,14 @@ returns c =
     in
     let start = start merged in
     let s = start.args.s in
-    let done = merged.merge in
+    let done = merged.merge-m in
     let count = c.counted.ensures in
     let same = counted_same done.result c.counted.result count in (
       (floats_as s done.result _ same done.ensures.0.0, links_as s done.result _ same done.ensures.0.1),
-      rebuilt-is s (tree start) start.pre.1 done.result c.counted.result _ _ count (refold.ensures ∙ ap (refolded s) done.ensures.1),
+      rebuilt-is s (tree start) start.requires.rebuildable done.result c.counted.result _ _ count (refold.ensures ∙ ap (refolded s) done.ensures.1),
     )
 
-pub rebuild-spec : {M : Type 1} → statement M
-rebuild-spec = tie.close
+pub rebuild_spec : {M : Type 1} → statement M
+rebuild_spec = tie.close
     (tie.spec (λ c κs. search rules) refold-requires (λ c κs. search rules) (λ c. search rules) (λ c. search rules) (λ c. search rules) (λ c. search rules)
     returns)

@@ -9,5 +9,5 @@ use Rattle.rebuild.proofs.wanted.Tie as tie
 returns : tie.Need-returns
 returns c = ap (λ k. c.args.entries - k) (sym (target_is c.args.s.max_leaves c.requires.0.most-some))
 
-pub wanted-spec : {M : Type 1} → statement M
-wanted-spec = tie.close (tie.spec (λ c. search rules) (λ c. search rules) returns)
+pub wanted_spec : {M : Type 1} → statement M
+wanted_spec = tie.close (tie.spec (λ c. search rules) (λ c. search rules) returns)

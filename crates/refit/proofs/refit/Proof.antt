@@ -13,10 +13,10 @@ use Rattle.refit.proofs.refit.Statement.{statement}
 use Rattle.refit.proofs.refit.Tie as tie
 
 -- the start, from the two tests passed; and these, from the rounds done
-abbrev start : tie.Else2 → tie.Start
+abbrev start : tie.Else-count-eq0 → tie.Start
 start c = c.before.before.before.before.before.before.before.before
 
-abbrev tests : tie.After-rounds → tie.Else2
+abbrev tests : tie.After-rounds-m → tie.Else-count-eq0
 tests c = c.before.before.before.before.before
 
 -- the tree as it is lent
@@ -28,29 +28,29 @@ entries : (c : tie.Start) → length (tree c).entries ≡ c.args.n.entries
 entries c = count_entries_lem c.args.s c.args.n c.args.floats.now c.args.links.now
 
 -- past the tests it has some, and there are rows
-pourable : (c : tie.Else2) → Pourable (start c).args.s (start c).args.count (tree (start c))
+pourable : (c : tie.Else-count-eq0) → Pourable (start c).args.s (start c).args.count (tree (start c))
 pourable c =
     let start = start c in
-    refit_pourable start.args.s start.args.count (tree start) start.pre.1.1 (omega (arith, entries start, c.before.if1.false))
-    (omega (arith, c.if2.false))
+    refit_pourable start.args.s start.args.count (tree start) start.requires.dim_in_bounds.1 (omega (arith, entries start, c.before.if-n-eq0.false))
+    (omega (arith, c.if-count-eq0.false))
 
-returns : tie.Need-returns
+returns : tie.Need-returns-then-n-eq0
 returns c =
     let start = c.before.before.before.before.before.before.before in
     let a = start.args in
-    ((start.requires.0.0, start.requires.0.1), refit_bare a.s a.count a.rows.now (tree start) (entries start ∙ c.if1.true))
+    ((start.requires.floats.0, start.requires.floats.1), refit_bare a.s a.count a.rows.now (tree start) (entries start ∙ c.if-n-eq0.true))
 
-returns-2 : tie.Need-returns-2
+returns-2 : tie.Need-returns-then-count-eq0
 returns-2 c =
     let start = c.before.before.before.before.before.before.before.before in
     let a = start.args in
-    ((start.requires.0.0, start.requires.0.1), refit_none a.s a.count a.rows.now (tree start) c.if2.true)
+    ((start.requires.floats.0, start.requires.floats.1), refit_none a.s a.count a.rows.now (tree start) c.if-count-eq0.true)
 
-rounds-requires : tie.Need-rounds-requires
+rounds-requires : tie.Need-rounds-m-requires
 rounds-requires c κs =
     let tests = c.before.before.before.before in
     let start = start tests in
-    (start.pre.0, (start.pre.1.0, pourable tests))
+    (start.requires.floats, (start.requires.dim_in_bounds.0, pourable tests))
 
 refold-requires : tie.Need-refold-requires
 refold-requires c κs =
@@ -58,30 +58,30 @@ refold-requires c κs =
     let tests = tests rounds in
     let start = start tests in
     let a = start.args in
-    let done = rounds.rounds in (
+    let done = rounds.rounds-m in (
       (
         rw done.auto.1.1.0 done.ensures.0.0,
         rw done.auto.1.1.1.0 done.ensures.0.1,
-        rw done.auto.1.1.1.1.0 start.pre.0.2.floats_in_lem,
+        rw done.auto.1.1.1.1.0 start.requires.floats.2.floats_in_lem,
       ),
-      rounds_standing a.s a.count a.rows.now (tree start) a.n.entries start.pre.0.0.sized (pourable tests) (sym (entries start))
-          (omega (arith, tests.before.if1.left)) start.pre.0.0.entries_in done.ensures.1,
+      rounds_standing a.s a.count a.rows.now (tree start) a.n.entries start.requires.floats.0.sized (pourable tests) (sym (entries start))
+          (omega (arith, tests.before.if-n-eq0.false)) start.requires.floats.0.entries_in done.ensures.1,
     )
 
-returns-3 : tie.Need-returns-3
+returns-3 : tie.Need-returns
 returns-3 c =
     let refold = c.before.before.before.before in
     let rounds = refold.before.before.before.before.before.before.before.before.before.before.before.before in
     let tests = tests rounds in
     let start = start tests in
     let a = start.args in
-    let done = rounds.rounds in (
+    let done = rounds.rounds-m in (
       done.ensures.0,
-      refit_is a.s a.count a.rows.now (tree start) a.n.entries tests.before.if1.left tests.if2.left (sym (entries start))
+      refit_is a.s a.count a.rows.now (tree start) a.n.entries tests.before.if-n-eq0.false tests.if-count-eq0.false (sym (entries start))
           (refold.refold.ensures ∙ ap (refolded a.s) done.ensures.1),
     )
 
-pub refit-spec : {M : Type 1} → statement M
-refit-spec =
+pub refit_spec : {M : Type 1} → statement M
+refit_spec =
     tie.close (tie.spec returns returns-2 rounds-requires refold-requires (λ c. search rules) (λ c. search rules) (λ c. search rules) (λ c. search rules)
     returns-3)

@@ -19,48 +19,48 @@ use Rattle.refold.proofs.refold.Statement.{statement}
 use Rattle.counting.specs.Places.{get_occurs}
 use Rattle.refold.proofs.refold.Tie as tie
 
-abbrev invariant-loop : tie.invariant-loop
+abbrev invariant-loop : tie.invariant-loop-left
 invariant-loop s n floats₀ links scratch₀ i₀ left₀ floats scratch i left =
     let t = tree_of s n floats₀ links in
     (rs : List ℕ) × Backward t i rs × (length rs ≤ left) × (length floats ≡ length floats₀) × (length scratch ≡ length scratch₀)
     × (refold_all s rs (tree_of s n floats links) ≡ refolded s t)
 
-abbrev decreases-loop : tie.decreases-loop
+abbrev decreases-loop : tie.decreases-loop-left
 decreases-loop s n floats₀ links scratch₀ i₀ left₀ floats scratch i left = left
 
 abbrev tree : tie.Start invariant-loop decreases-loop → Tree
 tree c = tree_of c.args.s c.args.n c.args.floats.now c.args.links.now
 
 -- node i of the walk is there
-here : (c : tie.At-loop invariant-loop decreases-loop) → c.loop.i < c.before.before.before.before.before.args.n.nodes
+here : (c : tie.At-loop-left invariant-loop decreases-loop) → c.loop-left.i < c.before.before.before.before.before.args.n.nodes
 here c =
     let start = c.before.before.before.before.before in
     rw (count_nodes_lem start.args.s start.args.n start.args.floats.now start.args.links.now) at
-    (back_in start.args.s (tree start) start.requires.1.0 c.loop.invariant.1)
+    (back_in start.args.s (tree start) start.requires.standing.0 c.loop-left.invariant.1)
 
 -- what is left after node i, whose parent p was found
-next : (c : tie.After-known-told invariant-loop decreases-loop) → Next
+next : (c : tie.In-Node invariant-loop decreases-loop) → Next
     c.before.before.before.before.before.before.before.before.before.before.before.before.before.before.before.before.before.args.s
     (tree c.before.before.before.before.before.before.before.before.before.before.before.before.before.before.before.before.before)
-    c.before.before.before.before.before.before.before.before.before.before.before.before.before.before.before.before.before.requires.1.0
-    c.before.before.before.before.before.before.before.before.before.before.before.before.loop.i c.before.p.given.0.0
-    c.before.before.before.before.before.before.before.before.before.before.before.before.loop.invariant.0
+    c.before.before.before.before.before.before.before.before.before.before.before.before.before.before.before.before.before.requires.standing.0
+    c.before.before.before.before.before.before.before.before.before.before.before.before.loop-left.i c.before.in-Node.p-1
+    c.before.before.before.before.before.before.before.before.before.before.before.before.loop-left.invariant.0
 next c =
     let start = c.before.before.before.before.before.before.before.before.before.before.before.before.before.before.before.before.before in
-    let loop = c.before.before.before.before.before.before.before.before.before.before.before.before.loop in
-    back_next start.args.s (tree start) start.requires.1.0 _ loop.invariant.1
-    (sym (c.before.before.before.parent.ensures start.args.floats.now) ∙ a_parent _ _ c.before.p.given.1)
+    let loop = c.before.before.before.before.before.before.before.before.before.before.before.before.loop-left in
+    back_next start.args.s (tree start) start.requires.standing.0 _ loop.invariant.1
+    (sym (c.before.before.before.parent.ensures start.args.floats.now) ∙ a_parent _ _ c.before.in-Node.is)
 
-last-requires : tie.Need-last-requires invariant-loop decreases-loop
+last-requires : tie.Need-last-i-requires invariant-loop decreases-loop
 last-requires c κs = (
-  c.before.before.before.requires.0.1,
-  (c.before.before.before.args.floats.now, c.before.before.before.requires.1.0),
+  c.before.before.before.requires.floats.1,
+  (c.before.before.before.args.floats.now, c.before.before.before.requires.standing.0),
   root_in
       c.before.before.before.args.s c.before.before.before.args.n c.before.before.before.args.floats.now
-      c.before.before.before.args.links.now c.before.before.before.requires.1.0.framed,
+      c.before.before.before.args.links.now c.before.before.before.requires.standing.0.framed,
 )
 
-loop-holds : tie.Need-loop-init invariant-loop decreases-loop
+loop-holds : tie.Need-loop-left-init invariant-loop decreases-loop
 unfolding tree_of
 loop-holds c =
     let start = c.before.before.before.before in
@@ -72,109 +72,109 @@ loop-holds c =
     let count = count_nodes_lem s n fs ls in
     let rs = reverse (preorder t (length t.nodes) (t.root ∷ [])) in (
       rs,
-      subst (λ i. Backward t i rs) (ap (λ k. last_under t k n.root) count ∙ sym (c.last.ensures fs)) (walk_back s t start.requires.1.0),
+      subst (λ i. Backward t i rs) (ap (λ k. last_under t k n.root) count ∙ sym (c.last-i.ensures fs)) (walk_back s t start.requires.standing.0),
       subst (λ k. length rs ≤ k) count (order-few t (length t.nodes) (t.root ∷ [])),
       refl,
       refl,
-      back_all s t start.requires.1.0 t refl,
+      back_all s t start.requires.standing.0 t refl,
     )
 
-refold-node-requires : tie.Need-refold-node-requires invariant-loop decreases-loop
+refold-node-requires : tie.Need-refold_node-requires invariant-loop decreases-loop
 refold-node-requires c κs =
     let start = c.before.before.before.before.before.before.before.before in
-    let l = c.before.before.before.loop in
+    let l = c.before.before.before.loop-left in
     let s = start.args.s in (
       (
-        rw l.invariant.3 start.requires.0.0,
-        start.requires.0.1,
-        (start.args.floats.now, start.requires.1.0),
+        rw l.invariant.3 start.requires.floats.0,
+        start.requires.floats.1,
+        (start.args.floats.now, start.requires.standing.0),
         here (c.before.before.before),
       ),
       (
-        list_filled s start.args.n start.args.links.now start.args.floats.now l.floats start.requires.1.1 l.i
+        list_filled s start.args.n start.args.links.now start.args.floats.now l.floats start.requires.standing.1 l.i
             (here (c.before.before.before)),
-        rw l.invariant.4 start.requires.0.2,
+        rw l.invariant.4 start.requires.floats.2,
       ),
     )
 
 parent-requires : tie.Need-parent-requires invariant-loop decreases-loop
 parent-requires c κs =
     let start = c.before.before.before.before.before.before.before.before.before.before.before.before.before in
-    (start.requires.0.1, here (c.before.before.before.before.before.before.before.before))
+    (start.requires.floats.1, here (c.before.before.before.before.before.before.before.before))
 
-same_length : tie.Need-same-length invariant-loop decreases-loop
+same_length : tie.Need-shape_of-floats-in_default invariant-loop decreases-loop
 same_length c =
-    let loop = c.before.before.before.before.before.before.before.before.before.before.before.loop in
-    let refold-node = c.before.before.before.before.before.before.before.refold-node in
+    let loop = c.before.before.before.before.before.before.before.before.before.before.before.loop-left in
+    let refold-node = c.before.before.before.before.before.before.before.refold_node in
     refold-node.auto.1.1.0 ∙ loop.invariant.3
 
-same-length-2 : tie.Need-same-length-2 invariant-loop decreases-loop
+same-length-2 : tie.Need-shape_of-scratch-in_default invariant-loop decreases-loop
 same-length-2 c =
-    let loop = c.before.before.before.before.before.before.before.before.before.before.before.loop in
-    let refold-node = c.before.before.before.before.before.before.before.refold-node in
+    let loop = c.before.before.before.before.before.before.before.before.before.before.before.loop-left in
+    let refold-node = c.before.before.before.before.before.before.before.refold_node in
     refold-node.auto.1.1.1.1.1.0 ∙ loop.invariant.4
 
-returns : tie.Need-returns invariant-loop decreases-loop
+returns : tie.Need-returns-in_default invariant-loop decreases-loop
 returns c =
     let start = c.before.before.before.before.before.before.before.before.before.before.before.before.before.before.before.before in
-    let refold-node = c.before.before.before.before.before.before.before.refold-node in
-    let l = c.before.before.before.before.before.before.before.before.before.before.before.loop in
+    let refold-node = c.before.before.before.before.before.before.before.refold_node in
+    let l = c.before.before.before.before.before.before.before.before.before.before.before.loop-left in
     refold-node.ensures
-    ∙ back_top start.args.s (tree start) start.requires.1.0 _ l.invariant.1
-    (sym (c.before.before.parent.ensures start.args.floats.now) ∙ no_parent_lem _ c.enum_told.given.1)
+    ∙ back_top start.args.s (tree start) start.requires.standing.0 _ l.invariant.1
+    (sym (c.before.before.parent.ensures start.args.floats.now) ∙ no_parent_lem _ c.in_default.is)
     ∙ l.invariant.5
 
-before-requires : tie.Need-before-requires invariant-loop decreases-loop
+before-requires : tie.Need-before-i-requires invariant-loop decreases-loop
 before-requires c κs =
     let start = c.before.before.before.before.before.before.before.before.before.before.before.before.before.before.before.before.before in
-    let loop = c.before.before.before.before.before.before.before.before.before.before.before.before.loop in
+    let loop = c.before.before.before.before.before.before.before.before.before.before.before.before.loop-left in
     let s = start.args.s in
     let n = start.args.n in
     let fs = start.args.floats.now in
     let ls = start.args.links.now in
     let q = next c in
     let p_in = rw (count_nodes_lem s n fs ls) at q.parent_in in (
-      (start.requires.0.1, (fs, start.requires.1.0), p_in),
+      (start.requires.floats.1, (fs, start.requires.standing.0), p_in),
       λ gs. (
         same-leaf s n ls _ p_in gs fs ∙ q.inner,
         subst (λ l. 0 < occurs loop.i l) (same_list s n ls _ p_in fs gs)
-            (subst (λ j. 0 < occurs j (node_at (tree start) c.before.p.given.0.0).list) q.here
-            (get_occurs (node_at (tree start) c.before.p.given.0.0).list q.k 0 q.place)),
+            (subst (λ j. 0 < occurs j (node_at (tree start) c.before.in-Node.p-1).list) q.here
+            (get_occurs (node_at (tree start) c.before.in-Node.p-1).list q.k 0 q.place)),
       ),
     )
 
-loop-again : tie.Need-loop-preserved invariant-loop decreases-loop
+loop-again : tie.Need-loop-left-preserved invariant-loop decreases-loop
 loop-again c =
     let start = c.before.before.before.before.before.before.before.before.before.before.before.before.before.before.before.before.before.before in
-    let refold-node = c.before.before.before.before.before.before.before.before.before.refold-node in
-    let l = c.before.before.before.before.before.before.before.before.before.before.before.before.before.loop in
+    let refold-node = c.before.before.before.before.before.before.before.before.before.refold_node in
+    let l = c.before.before.before.before.before.before.before.before.before.before.before.before.before.loop-left in
     let q = next (c.before) in (
       q.rest,
-      subst (λ i. Backward (tree start) i q.rest) (sym (c.before2.ensures start.args.floats.now q.k q.place q.here)) q.before,
+      subst (λ i. Backward (tree start) i q.rest) (sym (c.before-i.ensures start.args.floats.now q.k q.place q.here)) q.before,
       omega (arith, q.fewer, l.invariant.2),
       refold-node.auto.1.1.0 ∙ l.invariant.3,
       refold-node.auto.1.1.1.1.1.0 ∙ l.invariant.4,
       ap (refold_all start.args.s q.rest) refold-node.ensures ∙ q.one _ ∙ l.invariant.5,
     )
 
-same-length-3 : tie.Need-same-length-3 invariant-loop decreases-loop
-same-length-3 c = c.before.loop.invariant.3
+same-length-3 : tie.Need-shape_of-floats invariant-loop decreases-loop
+same-length-3 c = c.before.loop-left.invariant.3
 
-same-length-4 : tie.Need-same-length-4 invariant-loop decreases-loop
-same-length-4 c = c.before.loop.invariant.4
+same-length-4 : tie.Need-shape_of-scratch invariant-loop decreases-loop
+same-length-4 c = c.before.loop-left.invariant.4
 
-returns-2 : tie.Need-returns-2 invariant-loop decreases-loop
+returns-2 : tie.Need-returns invariant-loop decreases-loop
 returns-2 c =
     let start = c.before.before.before.before.before.before in
     absurd (omega (
       arith,
-      c.before.loop.invariant.2,
-      c.loop-test.false,
-      back_some start.args.s (tree (start)) start.requires.1.0
-          c.before.loop.invariant.1,
+      c.before.loop-left.invariant.2,
+      c.loop-left-test.false,
+      back_some start.args.s (tree (start)) start.requires.standing.0
+          c.before.loop-left.invariant.1,
     ))
 
-pub refold-spec : {M : Type 1} → statement M
-refold-spec = tie.close
+pub refold_spec : {M : Type 1} → statement M
+refold_spec = tie.close
     (tie.spec invariant-loop decreases-loop last-requires loop-holds refold-node-requires parent-requires (λ c. search rules) (λ c. search rules) same_length same-length-2
     returns before-requires (λ c. search rules) (λ c. search rules) loop-again same-length-3 same-length-4 returns-2)

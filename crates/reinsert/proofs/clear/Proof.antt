@@ -14,12 +14,12 @@ use Rattle.reinsert.proofs.clear.Statement.{statement}
 use Rattle.reinsert.proofs.clear.Tie as tie
 
 -- the start, from the counters made
-abbrev start : tie.After-with-root → tie.Start
+abbrev start : tie.After-with_root-m → tie.Start
 start c = c.before.before.before.before.before
 
-counts : (c : tie.After-with-root) → c.with_root.result ≡ cleared_counts (start c).args.n
+counts : (c : tie.After-with_root-m) → c.with_root-m.result ≡ cleared_counts (start c).args.n
 unfolding cleared_counts
-counts c = c.with_root.ensures ∙ ap (root_at 0) (c.before.with_entries.ensures ∙ ap (count_entries 0) c.before.before.with-nodes.ensures)
+counts c = c.with_root-m.ensures ∙ ap (root_at 0) (c.before.with_entries.ensures ∙ ap (count_entries 0) c.before.before.with_nodes.ensures)
 
 put-requires : tie.Need-put-requires
 put-requires c κs =
@@ -43,7 +43,7 @@ returns c =
     let put = c.before.before.before.before.before.before.before in
     let made = put.before.before.before in
     let a = (start made).args in
-    let t = tree_of a.s made.with_root.result a.floats.now a.links.now in (
+    let t = tree_of a.s made.with_root-m.result a.floats.now a.links.now in (
       counts made,
       cleared-is a.s a.n _ (counts made) a.floats.now _ a.links.now _
           (put.put.ensures a.links.now ∙ ap (λ z. on_node (summed (λ _. z)) 0 t) put.before.empty.ensures) c.before.before.link.ensures,

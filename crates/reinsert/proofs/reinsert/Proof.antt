@@ -7,34 +7,34 @@ use Rattle.reinsert.proofs.reinsert.Statement.{statement}
 use Rattle.reinsert.proofs.reinsert.Tie as tie
 
 -- the start, from the entries collected, and these, from the nodes forgotten
-abbrev start : tie.After-collect → tie.Start
+abbrev start : tie.After-collect-count → tie.Start
 start c = c.before.before.before.before.before.before.before.before.before
 
-abbrev taken : tie.After-clear → tie.After-collect
+abbrev taken : tie.After-clear-m → tie.After-collect-count
 taken c = c.before.before.before.before.before.before.before
 
 -- the tree as it is lent
 abbrev tree : tie.Start → Tree
 tree c = tree_of c.args.s c.args.n c.args.floats.now c.args.links.now
 
-collect-requires : tie.Need-collect-requires
+collect-requires : tie.Need-collect-count-requires
 collect-requires c κs =
     let start = c.before.before.before.before.before.before.before.before in
-    ((start.requires.0.0, start.requires.0.1, start.requires.1.1.standing), start.requires.1.0)
+    ((start.requires.floats.0, start.requires.floats.1, start.requires.reinsertable.standing), start.requires.s_in_bounds)
 
-replace-all-requires : tie.Need-replace-all-requires
+replace-all-requires : tie.Need-replace_all-requires
 replace-all-requires c κs =
     let none = c.before.before.before.before.before.before.before in
     let all = taken none in
     let start = start all in
     let a = start.args in
-    let counts = none.clear.ensures.0 in (
+    let counts = none.clear-m.ensures.value in (
       (
-        rw none.clear.auto.1.1.0 (floats-cleared a.s a.n _ counts start.pre.0.0),
-        rw none.clear.auto.1.1.1.0 (links_cleared a.s a.n _ counts start.pre.0.1),
-        rw all.collect.kept.1.1.1.1.0 start.pre.1.0.0,
+        rw none.clear-m.auto.1.1.0 (floats-cleared a.s a.n _ counts start.requires.floats.0),
+        rw none.clear-m.auto.1.1.1.0 (links_cleared a.s a.n _ counts start.requires.floats.1),
+        rw all.collect-count.kept.1.1.1.1.0 start.requires.s_in_bounds.0,
       ),
-      all_replaceable a.s (tree start) start.pre.1.1 all.collect.ensures none.clear.ensures.1 start.pre.0.0.sized,
+      all_replaceable a.s (tree start) start.requires.reinsertable all.collect-count.ensures none.clear-m.ensures.links_after start.requires.floats.0.sized,
     )
 
 returns : tie.Need-returns
@@ -42,12 +42,12 @@ returns c =
     let none = c.before.before.before.before.before.before.before.before.before.before.before.before in
     let all = taken none in
     let start = start all in
-    let new = c.before.before.before.before.replace-all in (
-      (rw none.clear.auto.1.1.0 at new.ensures.0.0, rw none.clear.auto.1.1.1.0 at new.ensures.0.1),
-      reinserted-is start.args.s (tree start) start.pre.1.1 all.collect.ensures none.clear.ensures.1 new.ensures.1,
+    let new = c.before.before.before.before.replace_all in (
+      (rw none.clear-m.auto.1.1.0 at new.ensures.0.0, rw none.clear-m.auto.1.1.1.0 at new.ensures.0.1),
+      reinserted-is start.args.s (tree start) start.requires.reinsertable all.collect-count.ensures none.clear-m.ensures.links_after new.ensures.1,
     )
 
-pub reinsert-spec : {M : Type 1} → statement M
-reinsert-spec =
+pub reinsert_spec : {M : Type 1} → statement M
+reinsert_spec =
     tie.close (tie.spec collect-requires (λ c κs. search rules) replace-all-requires (λ c. search rules) (λ c. search rules) (λ c. search rules)
     (λ c. search rules) returns)

@@ -5,30 +5,30 @@ use Rattle.reports.specs.Lines.{wrote_decimal, wrote_long, wrote_both, wrote_is,
 use Rattle.reports.proofs.write_counts.Statement.{statement}
 use Rattle.reports.proofs.write_counts.Tie as tie
 
-write-decimal-requires : tie.Need-write-decimal-requires
+write-decimal-requires : tie.Need-write_decimal-a-requires
 write-decimal-requires c κs = omega (arith, decimal_short c.before.before.args.entries)
 
-hex-requires : tie.Need-hex-requires
+hex-requires : tie.Need-hex-b-requires
 hex-requires c κs =
     let start = c.before.before.before.before.before.before in
     omega (
       arith,
-      c.before.before.before.write-decimal.ensures.1,
-      c.before.before.before.write-decimal.auto.1.0,
+      c.before.before.before.write_decimal-a.ensures.1,
+      c.before.before.before.write_decimal-a.auto.1.0,
       decimal_short start.args.entries,
     )
 
-decimals-requires : tie.Need-decimals-requires
+decimals-requires : tie.Need-decimals-c-requires
 decimals-requires c κs =
     let write-decimal = c.before.before.before.before.before.before.before in
     let start = write-decimal.before.before.before in
     omega (
       arith,
-      write-decimal.write-decimal.ensures.1,
-      write-decimal.write-decimal.auto.1.0,
+      write-decimal.write_decimal-a.ensures.1,
+      write-decimal.write_decimal-a.auto.1.0,
       decimal_short start.args.entries,
-      c.before.before.before.hex.ensures.end,
-      wrote_long c.before.before.before.hex.ensures,
+      c.before.before.before.hex-b.ensures.end,
+      wrote_long c.before.before.before.hex-b.ensures,
       tabbed_hex start.args.threshold,
     )
 
@@ -39,14 +39,14 @@ newline-requires c κs =
     let start = write-decimal.before.before.before in
     omega (
       arith,
-      write-decimal.write-decimal.ensures.1,
-      write-decimal.write-decimal.auto.1.0,
+      write-decimal.write_decimal-a.ensures.1,
+      write-decimal.write_decimal-a.auto.1.0,
       decimal_short start.args.entries,
-      hex.hex.ensures.end,
-      wrote_long hex.hex.ensures,
+      hex.hex-b.ensures.end,
+      wrote_long hex.hex-b.ensures,
       tabbed_hex start.args.threshold,
-      c.before.before.before.decimals.ensures.end,
-      wrote_long c.before.before.before.decimals.ensures,
+      c.before.before.before.decimals-c.ensures.end,
+      wrote_long c.before.before.before.decimals-c.ensures,
       tabbed_decimals start.args.rebuilds start.args.total,
     )
 
@@ -57,9 +57,9 @@ returns c =
     let write-decimal = hex.before.before.before.before in
     let start = write-decimal.before.before.before in
     let a = start.args in
-    let first = wrote_decimal a.entries (omega arith) write-decimal.write-decimal.ensures in
+    let first = wrote_decimal a.entries (omega arith) write-decimal.write_decimal-a.ensures in
     wrote_is (counts_are a.entries a.threshold a.rebuilds a.total)
-    (wrote_both (wrote_both (wrote_both first hex.hex.ensures) decimals.decimals.ensures) c.before.before.newline.ensures)
+    (wrote_both (wrote_both (wrote_both first hex.hex-b.ensures) decimals.decimals-c.ensures) c.before.before.newline.ensures)
 
-pub write-counts-spec : {M : Type 1} → statement M
-write-counts-spec = tie.close (tie.spec write-decimal-requires hex-requires decimals-requires newline-requires (λ c. search rules) returns)
+pub write_counts_spec : {M : Type 1} → statement M
+write_counts_spec = tie.close (tie.spec write-decimal-requires hex-requires decimals-requires newline-requires (λ c. search rules) returns)

@@ -10,33 +10,33 @@ use Rattle.route.proofs.route.Statement.{statement}
 use Rattle.route.proofs.route.Tie as tie
 
 -- the start, from the descent done
-abbrev start : tie.After-descend → tie.Start
+abbrev start : tie.After-descend-leaf → tie.Start
 start c = c.before.before.before.before
 
 -- the tree as it is lent
 abbrev tree : tie.Start → Tree
 tree c = tree_of c.args.s c.args.n c.args.floats.now c.args.links.now
 
-leaf : (c : tie.After-descend) → c.descend.result ≡ leaf_for (tree (start c)) (λ d. dist_to (start c).args.s d (start c).args.row.now)
-leaf c = c.descend.ensures.0 ∙ ap (λ i. leaf_for (tree (start c)) i.near) (item_row (start c).args.s (start c).args.row.now)
+leaf : (c : tie.After-descend-leaf) → c.descend-leaf.result ≡ leaf_for (tree (start c)) (λ d. dist_to (start c).args.s d (start c).args.row.now)
+leaf c = c.descend-leaf.ensures.value ∙ ap (λ i. leaf_for (tree (start c)) i.near) (item_row (start c).args.s (start c).args.row.now)
 
-descend-requires : tie.Need-descend-requires
+descend-requires : tie.Need-descend-leaf-requires
 descend-requires c κs =
     let start = c.before.before.before in
     let a = start.args in
-    ((start.requires.0.0, start.requires.0.1, fits_row a.s a.row.now start.requires.0.2), routable_sure a.s (tree start) start.requires.1)
+    ((start.requires.floats.0, start.requires.floats.1, fits_row a.s a.row.now start.requires.floats.2), routable_sure a.s (tree start) start.requires.routable)
 
-closest-entry-requires : tie.Need-closest-entry-requires
+closest-entry-requires : tie.Need-closest_entry-requires
 closest-entry-requires c κs =
     let down = c.before in
     let start = start down in
     let a = start.args in
     let list = c.list.ensures a.floats.now in
-    let here = down.descend.ensures.1 in (
-      start.pre.0.0,
-      start.pre.0.2,
-      leaf-some a.s a.n a.floats.now a.links.now a.row.now start.pre.1 _ (leaf down) here list,
-      leaf_entries a.s a.n a.floats.now a.links.now a.row.now start.pre.1 _ (leaf down) here list,
+    let here = down.descend-leaf.ensures.upper_bound in (
+      start.requires.floats.0,
+      start.requires.floats.2,
+      leaf-some a.s a.n a.floats.now a.links.now a.row.now start.requires.routable _ (leaf down) here list,
+      leaf_entries a.s a.n a.floats.now a.links.now a.row.now start.requires.routable _ (leaf down) here list,
     )
 
 returns : tie.Need-returns
@@ -44,11 +44,11 @@ returns c =
     let down = c.before.before in
     let start = start down in
     let a = start.args in
-    let near = c.closest-entry.ensures in (
-      route_is a.s a.n a.floats.now a.links.now a.row.now start.pre.1 _ (leaf down) down.descend.ensures.1
+    let near = c.closest_entry.ensures in (
+      route_is a.s a.n a.floats.now a.links.now a.row.now start.requires.routable _ (leaf down) down.descend-leaf.ensures.upper_bound
           (c.before.list.ensures a.floats.now) (near.0 a.links.now),
       near.1,
     )
 
-pub route-spec : {M : Type 1} → statement M
-route-spec = tie.close (tie.spec descend-requires (λ c κs. search rules) closest-entry-requires returns)
+pub route_spec : {M : Type 1} → statement M
+route_spec = tie.close (tie.spec descend-requires (λ c κs. search rules) closest-entry-requires returns)

@@ -5,9 +5,9 @@ use Rattle.lines.specs.Runs.{Room}
 use Rattle.rowlist.proofs.list.Statement.{statement}
 use Rattle.rowlist.proofs.list.Tie as tie
 
-finish-requires : tie.Need-finish-requires
+finish-requires : tie.Need-finish-end-requires
 finish-requires c κs =
-    let read = c.before.before.before.before.before.before.before.before.before.before.before.before.before.before.read in
+    let read = c.before.before.before.before.before.before.before.before.before.before.before.before.before.before.read-input in
     let kept = read.auto in
     let room : Room 200 5950 6175 425 75 = record {
       line_room = search rules;
@@ -20,8 +20,8 @@ finish-requires c κs =
       (read.ensures, search rules),
     )
 
-pub list-spec : {M : Type 1} → statement M
-list-spec =
+pub list_spec : {M : Type 1} → statement M
+list_spec =
     tie.close (tie.spec (λ c κs. search rules) (λ c. search rules) (λ c. search rules) (λ c. search rules) (λ c. search rules) (λ c. search rules)
     (λ c. search rules) (λ c κs. search rules) (λ c. search rules) (λ c κs. search rules) (λ c. search rules) (λ c. search rules) (λ c. search rules)
     (λ c. search rules) (λ c. search rules) (λ c. search rules) (λ c. search rules) finish-requires (λ c. search rules) (λ c. search rules)

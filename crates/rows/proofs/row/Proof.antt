@@ -7,6 +7,6 @@ use Rattle.rows.proofs.row.Tie as tie
 returns : tie.Need-returns
 returns c = row_cut c.before.args.s c.before.args.rows.now c.before.args.k
 
-pub row-spec : {M : Type 1} → statement M
-row-spec = tie.close (tie.spec (λ c. search rules) (λ c. search rules) (λ c. search rules) (λ c. search rules) (λ c. search rules) (λ c. search rules)
+pub row_spec : {M : Type 1} → statement M
+row_spec = tie.close (tie.spec (λ c. search rules) (λ c. search rules) (λ c. search rules) (λ c. search rules) (λ c. search rules) (λ c. search rules)
     returns)

@@ -7,5 +7,5 @@ use Rattle.seen.proofs.has.Tie as tie
 returns : tie.Need-returns
 returns c = has_is c.before.args.set c.before.args.e c.word.ensures
 
-pub has-spec : {M : Type 1} → statement M
-has-spec = tie.close (tie.spec (λ c κs. search rules) (λ c. search rules) returns)
+pub has_spec : {M : Type 1} → statement M
+has_spec = tie.close (tie.spec (λ c κs. search rules) (λ c. search rules) returns)

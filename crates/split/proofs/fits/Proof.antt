@@ -5,17 +5,17 @@ use Rattle.split.specs.Up.{fits_leaf, fits_inner}
 use Rattle.split.proofs.fits.Statement.{statement}
 use Rattle.split.proofs.fits.Tie as tie
 
-returns : tie.Need-returns
+returns : tie.Need-returns-then-is_leaf
 returns c =
     let a = c.before.before.before.before.before.args in
-    λ fs. fits_leaf a.s (tree_of a.s a.n fs a.links.now) a.i (c.before.before.before.list-len.ensures fs)
-    (c.before.before.is_leaf.ensures fs) c.before.if1.true
+    λ fs. fits_leaf a.s (tree_of a.s a.n fs a.links.now) a.i (c.before.before.before.list_len-len.ensures fs)
+    (c.before.before.is_leaf.ensures fs) c.before.if-is_leaf.true
 
-returns-2 : tie.Need-returns-2
+returns-2 : tie.Need-returns-else-is_leaf
 returns-2 c =
     let a = c.before.before.before.before.before.args in
-    λ fs. fits_inner a.s (tree_of a.s a.n fs a.links.now) a.i (c.before.before.before.list-len.ensures fs)
-    (c.before.before.is_leaf.ensures fs) c.before.if1.false
+    λ fs. fits_inner a.s (tree_of a.s a.n fs a.links.now) a.i (c.before.before.before.list_len-len.ensures fs)
+    (c.before.before.is_leaf.ensures fs) c.before.if-is_leaf.false
 
-pub fits-spec : {M : Type 1} → statement M
-fits-spec = tie.close (tie.spec (λ c κs. search rules) (λ c κs. search rules) returns returns-2)
+pub fits_spec : {M : Type 1} → statement M
+fits_spec = tie.close (tie.spec (λ c κs. search rules) (λ c κs. search rules) returns returns-2)

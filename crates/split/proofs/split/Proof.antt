@@ -12,42 +12,42 @@ use Rattle.split.proofs.split.Tie as tie
 
 -- ---- the places: the halves are written, the groups are made, the kind is read
 
-abbrev grouped : tie.After-part → tie.After-groups
+abbrev grouped : tie.After-part-r → tie.After-groups-h
 grouped c = c.before.before.before
 
-abbrev kind : tie.After-groups → tie.After-is-leaf
+abbrev kind : tie.After-groups-h → tie.After-is_leaf-leaf
 kind c = c.before.before.before
 
-abbrev start : tie.After-is-leaf → tie.Start
+abbrev start : tie.After-is_leaf-leaf → tie.Start
 start c = c.before.before.before.before
 
 -- what `part` asks of the groups
-halves : (c : tie.After-groups)
-    → let a = (start (kind c)).args in HalvesIn a.s a.n (tree_of a.s a.n a.floats.now a.links.now) a.i c.groups.result
+halves : (c : tie.After-groups-h)
+    → let a = (start (kind c)).args in HalvesIn a.s a.n (tree_of a.s a.n a.floats.now a.links.now) a.i c.groups-h.result
 halves c =
     let s = start (kind c) in
     let a = s.args in
-    halves_in a.s a.n (tree_of a.s a.n a.floats.now a.links.now) a.i s.pre.0.0.sized s.pre.1 c.groups.ensures
+    halves_in a.s a.n (tree_of a.s a.n a.floats.now a.links.now) a.i s.requires.floats.0.sized s.requires.splits c.groups-h.ensures
 
-part-requires : tie.Need-part-requires
+part-requires : tie.Need-part-r-requires
 part-requires c κs =
     let h = c.before.before in
     let p = (start (kind h)).requires in
     ((p.0.0, p.0.1, p.0.2, p.0.3), halves h)
 
-returns : tie.Need-returns
+returns : tie.Need-returns-then-leaf
 returns c =
     let part = c.before.before.before.before.before in
     let h = grouped part in
     let a = (start (kind h)).args in
     let fs = a.floats.now in (
-      part.part.ensures.0,
-      part.part.ensures.1
-          ∙ split-leaf a.s a.i h.groups.result (tree_of a.s a.n fs a.links.now) h.groups.ensures
-          (sym ((kind h).is_leaf.ensures fs) ∙ c.if1.true),
+      part.part-r.ensures.value,
+      part.part-r.ensures.links_after
+          ∙ split-leaf a.s a.i h.groups-h.result (tree_of a.s a.n fs a.links.now) h.groups-h.ensures
+          (sym ((kind h).is_leaf-leaf.ensures fs) ∙ c.if-leaf.true),
     )
 
-slice-aggregate-adopt : tie.Need-slice-aggregate-adopt
+slice-aggregate-adopt : tie.Need-slice_bounds-adopt-end
 slice-aggregate-adopt c = sym (halves (grouped c.before.before.before.before.before.before.before.before)).two_long
 
 adopt-requires : tie.Need-adopt-requires
@@ -58,17 +58,17 @@ adopt-requires c κs =
     let s = start (kind h) in
     let a = s.args in
     let two = halves h in
-    let small = caps_small a.s a.n _ s.pre.0.0 in (
+    let small = caps_small a.s a.n _ s.requires.floats.0 in (
       (
-        links_more a.s a.n part.part.result part.part.ensures.0 part.part.auto.1.1.1.0 s.pre.0.1 s.pre.0.3,
+        links_more a.s a.n part.part-r.result part.part-r.ensures.value part.part-r.auto.1.1.1.0 s.requires.floats.1 s.requires.floats.3,
         omega (arith, two.two_long, two.twos-few),
-        omega (arith, s.pre.0.3),
+        omega (arith, s.requires.floats.3),
       ),
       moved_in a.s a.n (tree_of a.s a.n a.floats.now a.links.now) a.i two
-          (sym ((kind h).is_leaf.ensures a.floats.now) ∙ inner.if1.false) part.part.ensures.0,
+          (sym ((kind h).is_leaf-leaf.ensures a.floats.now) ∙ inner.if-leaf.false) part.part-r.ensures.value,
     )
 
-returns-2 : tie.Need-returns-2
+returns-2 : tie.Need-returns
 returns-2 c =
     let adopt = c.before.before in
     let inner = adopt.before.before.before.before in
@@ -77,13 +77,13 @@ returns-2 c =
     let a = (start (kind h)).args in
     let fs = a.floats.now in
     let ls = a.links.now in (
-      part.part.ensures.0,
-      adopt.adopt.ensures part.part.new.1.1.0 ∙ ap (adopted_by a.n.nodes (twos h.groups.result)) part.part.ensures.1
-          ∙ split-inner a.s a.i h.groups.result (tree_of a.s a.n fs ls) h.groups.ensures (count_nodes_lem a.s a.n fs ls)
-          (sym ((kind h).is_leaf.ensures fs) ∙ inner.if1.false),
+      part.part-r.ensures.value,
+      adopt.adopt.ensures part.part-r.new.1.1.0 ∙ ap (adopted_by a.n.nodes (twos h.groups-h.result)) part.part-r.ensures.links_after
+          ∙ split-inner a.s a.i h.groups-h.result (tree_of a.s a.n fs ls) h.groups-h.ensures (count_nodes_lem a.s a.n fs ls)
+          (sym ((kind h).is_leaf-leaf.ensures fs) ∙ inner.if-leaf.false),
     )
 
-pub split-spec : {M : Type 1} → statement M
-split-spec =
+pub split_spec : {M : Type 1} → statement M
+split_spec =
     tie.close (tie.spec (λ c κs. search rules) (λ c κs. search rules) part-requires (λ c. search rules) (λ c. search rules) returns
     slice-aggregate-adopt adopt-requires (λ c. search rules) (λ c. search rules) returns-2)

@@ -5,17 +5,17 @@ use Rattle.tour.specs.Walking.{back_of}
 use Rattle.tour.proofs.back.Statement.{statement}
 use Rattle.tour.proofs.back.Tie as tie
 
-returns : tie.Need-returns
+returns : tie.Need-returns-then-met-n
 unfolding back_of
 returns c =
     let start = c.before.before in
-    λ fs. rw (count_nodes_lem start.args.s start.args.n fs start.args.links.now, eq-eqb start.args.met start.args.n.nodes c.if1.true)
+    λ fs. rw (count_nodes_lem start.args.s start.args.n fs start.args.links.now, eq-eqb start.args.met start.args.n.nodes c.if-met-n.true)
 
-returns-2 : tie.Need-returns-2
+returns-2 : tie.Need-returns-else-met-n
 unfolding back_of
 returns-2 c =
     let start = c.before.before in
-    λ fs. rw (count_nodes_lem start.args.s start.args.n fs start.args.links.now, ne_eqb start.args.met start.args.n.nodes c.if1.false)
+    λ fs. rw (count_nodes_lem start.args.s start.args.n fs start.args.links.now, ne_eqb start.args.met start.args.n.nodes c.if-met-n.false)
 
-pub back-spec : {M : Type 1} → statement M
-back-spec = tie.close (tie.spec returns returns-2)
+pub back_spec : {M : Type 1} → statement M
+back_spec = tie.close (tie.spec returns returns-2)

@@ -4,15 +4,15 @@ use Rattle.tour.specs.Walking.{meeting}
 use Rattle.tour.proofs.meet.Statement.{statement}
 use Rattle.tour.proofs.meet.Tie as tie
 
-is-leaf-requires : tie.Need-is-leaf-requires
+is-leaf-requires : tie.Need-is_leaf-requires
 is-leaf-requires c κs = c.before.requires
 
-list-len-requires : tie.Need-list-len-requires
+list-len-requires : tie.Need-list_len-requires
 list-len-requires c κs = c.before.before.requires
 
 returns : tie.Need-returns
 unfolding meeting
-returns c = λ fs. rw (← c.before.before.is_leaf.ensures fs, ← c.before.list-len.ensures fs) c.meet.ensures
+returns c = λ fs. rw (← c.before.before.is_leaf.ensures fs, ← c.before.list_len.ensures fs) c.meet.ensures
 
-pub meet-spec : {M : Type 1} → statement M
-meet-spec = tie.close (tie.spec is-leaf-requires list-len-requires (λ c κs. search rules) returns)
+pub meet_spec : {M : Type 1} → statement M
+meet_spec = tie.close (tie.spec is-leaf-requires list-len-requires (λ c κs. search rules) returns)

@@ -12,25 +12,25 @@ use Rattle.tour.specs.Loops.{Above, Going, above_in, go_start, go_down, go_up, g
 use Rattle.tour.proofs.walk.Statement.{statement}
 use Rattle.tour.proofs.walk.Tie as tie
 
-abbrev invariant-loop : tie.invariant-loop
+abbrev invariant-loop : tie.invariant-loop-left
 invariant-loop s n links at₀ k₀ d₀ met₀ depths₀ left₀ at k d met depths left = (at < n.nodes) × (d + left ≤ 2 * n.nodes) × (met + left ≤ 2 * n.nodes + 1)
     × AnyFloats s n links (λ t. Above t at d) × AnyFloats s n links (λ t. Going t left at k d met depths)
 
-abbrev decreases-loop : tie.decreases-loop
+abbrev decreases-loop : tie.decreases-loop-left
 decreases-loop s n links at₀ k₀ d₀ met₀ depths₀ left₀ at k d met depths left = left
 
-meet-requires : tie.Need-meet-requires invariant-loop decreases-loop
+meet-requires : tie.Need-meet-depths-requires invariant-loop decreases-loop
 meet-requires c κs =
     let start = c.before.before in
     (start.requires.0, (at_root start.args.s start.args.n [] start.args.links.now (start.requires.2 [])).0)
 
-mul_left : tie.Need-overflow-mul-left invariant-loop decreases-loop
+mul_left : tie.Need-overflow_mul-left invariant-loop decreases-loop
 mul_left c =
     let start = c.before.before.before.before in
     let a = nodes_small start.args.s start.requires.0.sized in
     omega (arith, start.requires.0.nodes_in, a)
 
-loop-holds : tie.Need-loop-init invariant-loop decreases-loop
+loop-holds : tie.Need-loop-left-init invariant-loop decreases-loop
 unfolding tree_of
 loop-holds c =
     let start = c.before.before.before.before in (
@@ -39,68 +39,68 @@ loop-holds c =
       omega arith,
       λ fs. (at_root start.args.s start.args.n fs start.args.links.now (start.requires.2 fs)).1,
       λ fs. go_start (tree_of start.args.s start.args.n fs start.args.links.now)
-          (rw (count_nodes_lem start.args.s start.args.n fs start.args.links.now)) (rw (← c.before.before.new.ensures) (c.before.meet.ensures fs)),
+          (rw (count_nodes_lem start.args.s start.args.n fs start.args.links.now)) (rw (← c.before.before.new.ensures) (c.before.meet-depths.ensures fs)),
     )
 
 next-requires : tie.Need-next-requires invariant-loop decreases-loop
 next-requires c κs =
     let start = c.before.before.before.before.before.before in
-    let loop = c.before.loop in
+    let loop = c.before.loop-left in
     (start.requires.0, start.requires.1, loop.invariant.0, λ fs. above_in _ loop.at loop.d (loop.invariant.3 fs))
 
-add-d : tie.Need-overflow-add-d invariant-loop decreases-loop
+add-d : tie.Need-overflow_add-d invariant-loop decreases-loop
 add-d c =
     let start = c.before.before.before.before.before.before.before.before.before.before in
     let a = nodes_small start.args.s start.requires.0.sized in
-    omega (arith, start.requires.0.nodes_in, a, c.before.before.before.before.before.loop.invariant.1)
+    omega (arith, start.requires.0.nodes_in, a, c.before.before.before.before.before.loop-left.invariant.1)
 
-add-met : tie.Need-overflow-add-met invariant-loop decreases-loop
+add-met : tie.Need-overflow_add-met invariant-loop decreases-loop
 add-met c =
     let start = c.before.before.before.before.before.before.before.before.before.before in
     let a = nodes_small start.args.s start.requires.0.sized in
-    omega (arith, start.requires.0.nodes_in, a, c.before.before.before.before.before.loop.invariant.2)
+    omega (arith, start.requires.0.nodes_in, a, c.before.before.before.before.before.loop-left.invariant.2)
 
-meet-requires-2 : tie.Need-meet-requires-2 invariant-loop decreases-loop
+meet-requires-2 : tie.Need-meet-depths-requires-in-Down invariant-loop decreases-loop
 meet-requires-2 c κs =
     let start = c.before.before.before.before.before.before.before.before.before.before in
-    let loop = c.before.before.before.before.before.loop in
+    let loop = c.before.before.before.before.before.loop-left in
     let next = c.before.before.before.next in
-    let down = c.before.c in (
+    let down = c.before.c-1 in (
       start.requires.0,
       (down_there start.args.s start.args.n [] start.args.links.now (start.requires.1 []) (start.requires.2 []) loop.at loop.k loop.d
           down.given.0.0 (sym (next.ensures []) ∙ down.given.1) loop.invariant.0 (loop.invariant.3 [])).0,
     )
 
-sub-d : tie.Need-overflow-sub-d invariant-loop decreases-loop
+sub-d : tie.Need-overflow_sub-d invariant-loop decreases-loop
 sub-d c =
     let start = c.before.before.before.before.before.before.before.before.before.before in
-    let loop = c.before.before.before.before.before.loop in
+    let loop = c.before.before.before.before.before.loop-left in
     let next = c.before.before.before.next in
-    let up = c.before.p in
+    let up = c.before.p-1 in
     omega (
       arith,
       (up_there start.args.s start.args.n [] start.args.links.now loop.at loop.k loop.d up.given.0.0 _
           (sym (next.ensures []) ∙ up.given.1) (loop.invariant.3 [])).1,
     )
 
-returns : tie.Need-returns invariant-loop decreases-loop
+returns : tie.Need-returns-in-End invariant-loop decreases-loop
 returns c =
-    let loop = c.before.before.before.before.before.loop in
-    λ fs. go_end _ loop.left loop.at loop.k loop.d loop.met loop.depths c.before.before.before.before.loop-test.true
-    (loop.invariant.4 fs) (c.before.before.before.next.ensures fs) c.before.enum_told.given.1 (c.back.ensures fs)
+    let loop = c.before.before.before.before.before.loop-left in
+    λ fs. go_end _ loop.left loop.at loop.k loop.d loop.met loop.depths c.before.before.before.before.loop-left-test.true
+    (loop.invariant.4 fs) (c.before.before.before.next.ensures fs) c.before.in-End.is (c.back.ensures fs)
 
-returns-2 : tie.Need-returns-2 invariant-loop decreases-loop
+returns-2 : tie.Need-returns-in-Astray invariant-loop decreases-loop
 returns-2 c =
-    let loop = c.before.before.before.before.loop in
-    λ fs. go_astray _ loop.left loop.at loop.k loop.d loop.met loop.depths c.before.before.before.loop-test.true
-    (loop.invariant.4 fs) (c.before.before.next.ensures fs) c.enum-told2.given.1
+    let loop = c.before.before.before.before.loop-left in
+    λ fs. go_astray _ loop.left loop.at loop.k loop.d loop.met loop.depths c.before.before.before.loop-left-test.true
+    (loop.invariant.4 fs) (c.before.before.next.ensures fs) c.in-Astray.is
 
-loop-again : tie.Need-loop-preserved invariant-loop decreases-loop
+loop-again : tie.Need-loop-left-preserved invariant-loop decreases-loop
 loop-again c =
     let start = c.before.before.before.before.before.before.before.before in
-    let loop = c.before.before.before.loop in
+    let loop = c.before.before.before.loop-left in
     let next = c.before.next in
-    let some = c.before.before.loop-test.true in ⊎_elim
+    let some = c.before.before.loop-left-test.true in ⊎_elim
     (λ w. (
       rw w.4 (down_there start.args.s start.args.n [] start.args.links.now (start.requires.1 []) (start.requires.2 []) loop.at loop.k
           loop.d w.1.given.0.0 (sym (next.ensures []) ∙ w.1.given.1) loop.invariant.0 (loop.invariant.3 [])).0,
@@ -120,14 +120,14 @@ loop-again c =
           (sym (next.ensures fs) ∙ w.1.given.1) (loop.invariant.3 fs)).2,
       λ fs. go_up _ loop.left loop.at loop.k loop.d loop.met loop.depths some (loop.invariant.4 fs) (next.ensures fs) w.1.given.1
           w.3 w.4 w.5 w.6 w.7,
-    )) c.match.branch
+    )) c.match-next.branch
 
-returns-3 : tie.Need-returns-3 invariant-loop decreases-loop
+returns-3 : tie.Need-returns invariant-loop decreases-loop
 returns-3 c =
-    let loop = c.before.loop in
-    λ fs. go_out _ loop.left loop.at loop.k loop.d loop.met loop.depths (omega (arith, c.loop-test.false)) (loop.invariant.4 fs)
+    let loop = c.before.loop-left in
+    λ fs. go_out _ loop.left loop.at loop.k loop.d loop.met loop.depths (omega (arith, c.loop-left-test.false)) (loop.invariant.4 fs)
 
-pub walk-spec : {M : Type 1} → statement M
-walk-spec = tie.close (tie.spec invariant-loop decreases-loop (λ c κs. search rules) meet-requires mul_left loop-holds next-requires (λ c. search rules) add-d add-met
+pub walk_spec : {M : Type 1} → statement M
+walk_spec = tie.close (tie.spec invariant-loop decreases-loop (λ c κs. search rules) meet-requires mul_left loop-holds next-requires (λ c. search rules) add-d add-met
     meet-requires-2 (λ c. search rules) sub-d (λ c. search rules) (λ c κs. search rules) returns (λ c. search rules) returns-2 (λ c. search rules)
     (λ c. search rules) loop-again returns-3)

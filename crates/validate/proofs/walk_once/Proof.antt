@@ -3,7 +3,7 @@ use Rattle.validate.specs.Examined.{walked_once}
 use Rattle.validate.proofs.walk_once.Statement.{statement}
 use Rattle.validate.proofs.walk_once.Tie as tie
 
-once-each-requires : tie.Need-once-each-requires
+once-each-requires : tie.Need-once_each-requires
 once-each-requires c κs = (c.before.requires.0, c.before.requires.1, c.before.requires.2)
 
 walk-requires : tie.Need-walk-requires
@@ -11,13 +11,13 @@ walk-requires c κs =
     let start = c.before.before.before in
     (start.requires.0, start.requires.1, start.requires.3)
 
-returns : tie.Need-returns
+returns : tie.Need-returns-then-once_each
 unfolding walked_once
-returns c = λ fs. rw (← c.before.before.once_each_lem.ensures fs, c.before.if1.true) (c.walk.ensures fs)
+returns c = λ fs. rw (← c.before.before.once_each_lem.ensures fs, c.before.if-once_each.true) (c.walk.ensures fs)
 
-returns-2 : tie.Need-returns-2
+returns-2 : tie.Need-returns-else-once_each
 unfolding walked_once
-returns-2 c = λ fs. rw (← c.before.once_each_lem.ensures fs, c.if1.false)
+returns-2 c = λ fs. rw (← c.before.once_each_lem.ensures fs, c.if-once_each.false)
 
-pub walk-once-spec : {M : Type 1} → statement M
-walk-once-spec = tie.close (tie.spec once-each-requires walk-requires returns returns-2)
+pub walk_once_spec : {M : Type 1} → statement M
+walk_once_spec = tie.close (tie.spec once-each-requires walk-requires returns returns-2)

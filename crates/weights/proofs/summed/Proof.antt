@@ -7,80 +7,80 @@ use Rattle.weights.specs.Adding.{summed}
 use Rattle.weights.proofs.summed.Statement.{statement}
 use Rattle.weights.proofs.summed.Tie as tie
 
-entries-count-requires : tie.Need-entries-count-requires
+entries-count-requires : tie.Need-entries_count-requires
 entries-count-requires c κs =
     let start = c.before.before in
     start.requires.0
 
-returns : tie.Need-returns
+returns : tie.Need-returns-then-not-entries_count
 unfolding summed
 returns c =
     let start = c.before.before.before.before in
-    rw (← c.before.entries-count.ensures start.args.links.now, not-true c.before.entries-count.result c.if1.true)
+    rw (← c.before.entries_count.ensures start.args.links.now, not-true c.before.entries_count.result c.if-not-entries_count.true-raw)
 
 total-requires : tie.Need-total-requires
 total-requires c κs =
     let start = c.before.before.before.before in
-    (start.requires.0, λ ls. sym (c.before.entries-count.ensures ls) ∙ not-false _ c.if1.false)
+    (start.requires.0, λ ls. sym (c.before.entries_count.ensures ls) ∙ not-false _ c.if-not-entries_count.false-raw)
 
-returns-2 : tie.Need-returns-2
+returns-2 : tie.Need-returns-then-total-gt-MOST_ROWS
 unfolding summed
 returns-2 c =
     let start = c.before.before.before.before.before.before in
-    let entries-count = c.before.before.before.entries-count in
-    let if1 = c.before.before.if1 in
+    let entries-count = c.before.before.before.entries_count in
+    let if1 = c.before.before.if-not-entries_count in
     rw (
       ← entries-count.ensures start.args.links.now,
       not-false entries-count.result if1.false,
       ← c.before.total.ensures start.args.links.now,
-      lt-leb c.before.total.result most c.if2.true,
+      lt-leb c.before.total.result most c.if-total-gt-MOST_ROWS.true,
     )
 
-weighs-nothing-requires : tie.Need-weighs-nothing-requires
+weighs-nothing-requires : tie.Need-weighs_nothing-requires
 weighs-nothing-requires c κs =
     let start = c.before.before.before.before.before.before.before.before in
     (start.requires.0, start.requires.3)
 
-returns-3 : tie.Need-returns-3
+returns-3 : tie.Need-returns-then-n-eq0
 unfolding summed
 returns-3 c =
     let start = c.before.before.before.before.before.before.before.before.before in
-    let entries-count = c.before.before.before.before.before.before.entries-count in
-    let if1 = c.before.before.before.before.before.if1 in
+    let entries-count = c.before.before.before.before.before.before.entries_count in
+    let if1 = c.before.before.before.before.before.if-not-entries_count in
     let total = c.before.before.before.before.total in
-    let if2 = c.before.before.before.if2 in
+    let if2 = c.before.before.before.if-total-gt-MOST_ROWS in
     rw (
       ← entries-count.ensures start.args.links.now,
       not-false entries-count.result if1.false,
       ← total.ensures start.args.links.now,
       le-leb total.result most if2.false,
       count_entries_lem start.args.s start.args.n start.args.floats.now start.args.links.now,
-      eq-eqb start.args.n.entries 0 c.before.if3.true,
+      eq-eqb start.args.n.entries 0 c.before.if-n-eq0.true,
     )
-    (c.weighs-nothing.ensures start.args.links.now)
+    (c.weighs_nothing.ensures start.args.links.now)
 
-nodes-add-up-requires : tie.Need-nodes-add-up-requires
+nodes-add-up-requires : tie.Need-nodes_add_up-requires
 nodes-add-up-requires c κs =
     let start = c.before.before.before.before.before.before.before.before in
     record { floats = start.requires.0; links = start.requires.1; listed = start.requires.2 }
 
-returns-4 : tie.Need-returns-4
+returns-4 : tie.Need-returns
 unfolding summed
 returns-4 c =
     let start = c.before.before.before.before.before.before.before.before.before in
-    let entries-count = c.before.before.before.before.before.before.entries-count in
-    let if1 = c.before.before.before.before.before.if1 in
+    let entries-count = c.before.before.before.before.before.before.entries_count in
+    let if1 = c.before.before.before.before.before.if-not-entries_count in
     let total = c.before.before.before.before.total in
-    let if2 = c.before.before.before.if2 in
+    let if2 = c.before.before.before.if-total-gt-MOST_ROWS in
     rw (
       ← entries-count.ensures start.args.links.now,
       not-false entries-count.result if1.false,
       ← total.ensures start.args.links.now,
       le-leb total.result most if2.false,
       count_entries_lem start.args.s start.args.n start.args.floats.now start.args.links.now,
-      ne_eqb start.args.n.entries 0 c.before.if3.false,
+      ne_eqb start.args.n.entries 0 c.before.if-n-eq0.false,
     )
-    c.nodes-add-up.ensures
+    c.nodes_add_up.ensures
 
-pub summed-spec : {M : Type 1} → statement M
-summed-spec = tie.close (tie.spec entries-count-requires returns total-requires returns-2 weighs-nothing-requires returns-3 nodes-add-up-requires returns-4)
+pub summed_spec : {M : Type 1} → statement M
+summed_spec = tie.close (tie.spec entries-count-requires returns total-requires returns-2 weighs-nothing-requires returns-3 nodes-add-up-requires returns-4)

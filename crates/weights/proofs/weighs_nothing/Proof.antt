@@ -10,5 +10,5 @@ returns : tie.Need-returns
 unfolding weighs_nothing tree_of
 returns c = λ ls. rw (whole_0, ← c.weight.ensures ls)
 
-pub weighs-nothing-spec : {M : Type 1} → statement M
-weighs-nothing-spec = tie.close (tie.spec (λ c κs. search rules) returns)
+pub weighs_nothing_spec : {M : Type 1} → statement M
+weighs_nothing_spec = tie.close (tie.spec (λ c κs. search rules) returns)

@@ -6,12 +6,12 @@ use Rattle.weights.specs.Weighable.{weight_at, child_in}
 use Rattle.weights.proofs.weight_at.Statement.{statement}
 use Rattle.weights.proofs.weight_at.Tie as tie
 
-is-leaf-requires : tie.Need-is-leaf-requires
+is-leaf-requires : tie.Need-is_leaf-leaf-requires
 is-leaf-requires c κs =
     let start = c.before.before in
     (start.requires.0.links, start.requires.1)
 
-list-at-requires : tie.Need-list-at-requires
+list-at-requires : tie.Need-list_at-c-requires
 list-at-requires c κs =
     let start = c.before.before.before in
     (start.requires.0.links, start.requires.1, start.requires.2)
@@ -21,7 +21,7 @@ weight-requires c κs =
     let start = c.before.before.before.before in
     let at = start.args.floats.now in (
       start.requires.0.floats,
-      rw (c.before.is_leaf.ensures at, c.list_at.ensures.0 at)
+      rw (c.before.is_leaf-leaf.ensures at, c.list_at-c.ensures.0 at)
           (child_in start.args.s start.args.n at start.args.links.now start.requires.0 start.args.i start.args.k start.requires.1 (start.requires.2 at)),
     )
 
@@ -31,8 +31,8 @@ returns c =
     let start = c.before.before.before.before.before in
     let at = start.args.floats.now in
     c.weight.ensures start.args.links.now
-    ∙ ap₂ (λ b x. (child (tree_of start.args.s start.args.n at start.args.links.now) b x).weight) (c.before.before.is_leaf.ensures at)
-    (c.before.list_at.ensures.0 at)
+    ∙ ap₂ (λ b x. (child (tree_of start.args.s start.args.n at start.args.links.now) b x).weight) (c.before.before.is_leaf-leaf.ensures at)
+    (c.before.list_at-c.ensures.0 at)
 
-pub weight-at-spec : {M : Type 1} → statement M
-weight-at-spec = tie.close (tie.spec is-leaf-requires list-at-requires weight-requires returns)
+pub weight_at_spec : {M : Type 1} → statement M
+weight_at_spec = tie.close (tie.spec is-leaf-requires list-at-requires weight-requires returns)

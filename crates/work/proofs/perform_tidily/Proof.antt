@@ -5,24 +5,24 @@ use Rattle.fronts.specs.Fronts.{all_fronts, scratch_in, AllLeft}
 use Rattle.work.proofs.perform_tidily.Statement.{statement}
 use Rattle.work.proofs.perform_tidily.Tie as tie
 
-perform-requires : tie.Need-perform-requires
+perform-requires : tie.Need-perform-m-requires
 perform-requires c κs =
     let start = c.before.before.before.before.before.before.before.before.before in
-    ((start.requires.0.tree.floats_in_lem, start.requires.0.tree.links_in, scratch_in start.requires.0), start.requires.1)
+    ((start.requires.fronts.tree.floats_in_lem, start.requires.fronts.tree.links_in, scratch_in start.requires.fronts), start.requires.dim_in_bounds)
 
-tidy-all-requires : tie.Need-tidy-all-requires
+tidy-all-requires : tie.Need-tidy_all-requires
 tidy-all-requires c κs =
     let start = c.before.before.before.before.before.before.before.before.before.before.before.before.before.before.before.before.before.before.before.before.before.before in
-    let new = c.before.before.before.before.before.before.before.before.before.before.before.before.perform in
-    all_fronts start.requires.0 new.auto.1.1.0 new.auto.1.1.1.0 new.auto.1.1.1.1.0 new.auto.1.1.1.1.1.0 new.ensures.0.0
+    let new = c.before.before.before.before.before.before.before.before.before.before.before.before.perform-m in
+    all_fronts start.requires.fronts new.auto.1.1.0 new.auto.1.1.1.0 new.auto.1.1.1.1.0 new.auto.1.1.1.1.1.0 new.ensures.0.0
     new.ensures.0.1
 
 returns : tie.Need-returns
 returns c =
-    let tidy = c.before.before.before.before.before.before.before.before.tidy-all in
-    let new = c.before.before.before.before.before.before.before.before.before.before.before.before.before.before.before.before.before.before.before.before.before.perform in
+    let tidy = c.before.before.before.before.before.before.before.before.tidy_all in
+    let new = c.before.before.before.before.before.before.before.before.before.before.before.before.before.before.before.before.before.before.before.before.before.perform-m in
     subst (λ t. AllLeft c.before.before.before.before.before.before.before.before.before.before.before.before.before.before.before.before.before.before.before.before.before.before.before.before.before.before.before.before.before.before.before.args.s t new.result tidy.new.1.1.0 tidy.new.1.1.1.0 tidy.new.1.1.1.1.0 tidy.new.1.1.1.1.1.0)
     new.ensures.1 tidy.ensures
 
-pub perform-tidily-spec : {M : Type 1} → statement M
-perform-tidily-spec = tie.close (tie.spec perform-requires tidy-all-requires (λ c. search rules) (λ c. search rules) (λ c. search rules) (λ c. search rules) returns)
+pub perform_tidily_spec : {M : Type 1} → statement M
+perform_tidily_spec = tie.close (tie.spec perform-requires tidy-all-requires (λ c. search rules) (λ c. search rules) (λ c. search rules) (λ c. search rules) returns)

@@ -6,16 +6,16 @@ use Rattle.arena.specs.Trees.{child_slot}
 use Rattle.arena.proofs.children.place.Statement.{statement}
 use Rattle.arena.proofs.children.place.Tie as tie
 
-add-result : tie.Need-overflow-add-result
-add-result c = omega (arith, nodes_small c.before.before.args.s c.before.before.requires.0, c.node-cap.ensures)
+add-result : tie.Need-overflow_add-result
+add-result c = omega (arith, nodes_small c.before.before.args.s c.before.before.requires.0, c.node_cap.ensures)
 
-returns : tie.Need-returns
+returns : tie.Need-returns-then-leaf
 unfolding child_slot
-returns c = rw (c.before.if1.true, c.node-cap.ensures)
+returns c = rw (c.before.if-leaf.true, c.node_cap.ensures)
 
-returns-2 : tie.Need-returns-2
+returns-2 : tie.Need-returns-else-leaf
 unfolding child_slot
-returns-2 c = rw c.if1.false
+returns-2 c = rw c.if-leaf.false
 
-pub place-spec : {M : Type 1} → statement M
-place-spec = tie.close (tie.spec (λ c κs. search rules) add-result returns returns-2)
+pub place_spec : {M : Type 1} → statement M
+place_spec = tie.close (tie.spec (λ c κs. search rules) add-result returns returns-2)

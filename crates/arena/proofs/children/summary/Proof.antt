@@ -5,7 +5,7 @@ use Rattle.arena.specs.Numbered.{summary_at}
 use Rattle.arena.proofs.children.summary.Statement.{statement}
 use Rattle.arena.proofs.children.summary.Tie as tie
 
-place-requires : tie.Need-place-requires
+place-requires : tie.Need-place-at-requires
 place-requires c κs =
     let start = c.before in
     (start.requires.0.sized, child_small start.args.s start.args.n _ start.args.leaf start.args.i start.requires.0 start.requires.1)
@@ -13,15 +13,15 @@ place-requires c κs =
 load-requires : tie.Need-load-requires
 load-requires c κs =
     let start = c.before.before in
-    rw c.place.ensures (child_slot_lem start.args.s start.args.n _ start.args.leaf start.args.i start.requires.0 start.requires.1)
+    rw c.place-at.ensures (child_slot_lem start.args.s start.args.n _ start.args.leaf start.args.i start.requires.0 start.requires.1)
 
 returns : tie.Need-returns
 returns c =
     let start = c.before.before.before in
     let s = start.args.s in
     let fs = start.args.floats.now in
-    λ ls. c.load.ensures ∙ ap (summary_at s fs) c.before.place.ensures ∙ sym
+    λ ls. c.load.ensures ∙ ap (summary_at s fs) c.before.place-at.ensures ∙ sym
     (child-at s start.args.n fs ls start.args.leaf start.args.i start.requires.1)
 
-pub summary-spec : {M : Type 1} → statement M
-summary-spec = tie.close (tie.spec place-requires load-requires returns)
+pub summary_spec : {M : Type 1} → statement M
+summary_spec = tie.close (tie.spec place-requires load-requires returns)

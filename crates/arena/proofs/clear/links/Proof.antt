@@ -16,33 +16,33 @@ use Rattle.arena.specs.Tidied.{block_keeps, links_tidied}
 use Rattle.arena.proofs.clear.links.Statement.{statement}
 use Rattle.arena.proofs.clear.links.Tie as tie
 
-abbrev invariant-loop : tie.invariant-loop
+abbrev invariant-loop : tie.invariant-loop-i
 invariant-loop s links₀ w k i₀ links i = (i ≤ k) × (length links ≡ length links₀) × (links ≡ partly (tidy_block s) (block_width s) links₀ i)
 
-abbrev decreases-loop : tie.decreases-loop
+abbrev decreases-loop : tie.decreases-loop-i
 decreases-loop s links₀ w k i₀ links i = k - i
 
 -- in a turn, piece i is there
-fits : (c : tie.In-loop invariant-loop decreases-loop)
-    → (c.before.loop.i * c.before.before.block-width.result + c.before.before.block-width.result ≤ length
+fits : (c : tie.In-loop-i invariant-loop decreases-loop)
+    → (c.before.loop-i.i * c.before.before.block_width-w.result + c.before.before.block_width-w.result ≤ length
     c.before.before.before.before.args.links.now)
-    × (c.before.loop.i * block_width c.before.before.before.before.args.s ≤ length c.before.before.before.before.args.links.now)
+    × (c.before.loop-i.i * block_width c.before.before.before.before.args.s ≤ length c.before.before.before.before.args.links.now)
 fits c =
     let start = c.before.before.before.before in
-    turn_room c.before.loop.i start.args.n.nodes c.before.before.block-width.result (block_width start.args.s)
-    (length start.args.links.now) c.loop-test.true c.before.before.block-width.ensures
+    turn_room c.before.loop-i.i start.args.n.nodes c.before.before.block_width-w.result (block_width start.args.s)
+    (length start.args.links.now) c.loop-i-test.true c.before.before.block_width-w.ensures
     (blocks_room start.args.s start.args.n _ start.requires.0)
 
 -- and so are all pieces
-all : (c : tie.After-slice-known invariant-loop decreases-loop) → c.before.args.n.nodes * block_width c.before.args.s ≤ length c.before.args.links.now
+all : (c : tie.After-slice_known-1 invariant-loop decreases-loop) → c.before.args.n.nodes * block_width c.before.args.s ≤ length c.before.args.links.now
 all c = let start = c.before in blocks_room start.args.s start.args.n _ start.requires.0
 
-end : (c : tie.After-loop invariant-loop decreases-loop)
-    → c.before.before.before.before.args.n.nodes * c.before.before.block-width.result ≤ length
+end : (c : tie.After-loop-i invariant-loop decreases-loop)
+    → c.before.before.before.before.args.n.nodes * c.before.before.block_width-w.result ≤ length
     c.before.before.before.before.args.links.now
-end c = rw c.before.before.block-width.ensures (all c.before.before.before)
+end c = rw c.before.before.block_width-w.ensures (all c.before.before.before)
 
-loop-holds : tie.Need-loop-init invariant-loop decreases-loop
+loop-holds : tie.Need-loop-i-init invariant-loop decreases-loop
 loop-holds c =
     let start = c.before.before in (
       search rules,
@@ -53,17 +53,17 @@ loop-holds c =
 
 tidy-requires : tie.Need-tidy-requires invariant-loop decreases-loop
 tidy-requires c κs =
-    let block-width = c.before.before.before.block-width in
+    let block-width = c.before.before.before.block_width-w in
     let start = c.before.before.before.before.before in
     let room = fits c.before in
-    block_of start.args.s c.before.before.loop.links c.before.before.loop.i block-width.result
+    block_of start.args.s c.before.before.loop-i.links c.before.before.loop-i.i block-width.result
     (record { sized = start.requires.0.sized; room = rw (sym block-width.ensures) (omega arith) }) block-width.ensures
 
-loop-again : tie.Need-loop-preserved invariant-loop decreases-loop
+loop-again : tie.Need-loop-i-preserved invariant-loop decreases-loop
 unfolding put_stretch tidy_block
 loop-again c =
-    let loop = c.before.before.before.before.before.loop in
-    let block-width = c.before.before.before.before.before.before.block-width in
+    let loop = c.before.before.before.before.before.loop-i in
+    let block-width = c.before.before.before.before.before.before.block_width-w in
     let start = c.before.before.before.before.before.before.before.before in
     let s = start.args.s in
     let i = loop.i in
@@ -76,10 +76,10 @@ loop-again c =
           (c.before.before.tidy.ensures []),
     )
 
-same_length : tie.Need-same-length invariant-loop decreases-loop
+same_length : tie.Need-shape_of-links invariant-loop decreases-loop
 same_length c =
-    let block-width = c.before.before.before.before.before.before.block-width in
-    let loop = c.before.before.before.before.before.loop in
+    let block-width = c.before.before.before.before.before.before.block_width-w in
+    let loop = c.before.before.before.before.before.loop-i in
     let start = c.before.before.before.before.before.before.before.before in
     let at = start.args.n.nodes * block-width.result in
     same_len_mid at (length loop.links - at) loop.links c.before.before.zero.new.0 c.before.before.zero.auto.0 ∙ loop.invariant.1
@@ -87,8 +87,8 @@ same_length c =
 returns : tie.Need-returns invariant-loop decreases-loop
 unfolding put_stretch
 returns c =
-    let loop = c.before.before.before.before.before.loop in
-    let block-width = c.before.before.before.before.before.before.block-width in
+    let loop = c.before.before.before.before.before.loop-i in
+    let block-width = c.before.before.before.before.before.before.block_width-w in
     let start = c.before.before.before.before.before.before.before.before in
     let s = start.args.s in
     λ fs. partly_end (tidy_block s) (block_width s) (block_keeps s start.requires.0.sized) start.args.links.now 0 loop.i block-width.result
@@ -96,8 +96,8 @@ returns c =
     (all c.before.before.before.before.before.before.before) loop.invariant.2 c.before.before.zero.ensures ∙ links_tidied
     start.args.s start.args.n fs start.args.links.now start.requires.1
 
-pub links-spec : {M : Type 1} → statement M
-links-spec =
+pub links_spec : {M : Type 1} → statement M
+links_spec =
     tie.close (tie.spec invariant-loop decreases-loop (λ c κs. search rules) loop-holds (λ c. omega (arith, fits c)) (λ c. omega (arith, fits c))
     (λ c. omega (arith, fits c)) (λ c. omega (arith, fits c)) (λ c. omega (arith, fits c)) (λ c. omega (arith, fits c)) tidy-requires
     (λ c. search rules) (λ c. search rules) loop-again (λ c. omega (arith, end c)) (λ c. omega (arith, end c)) (λ c. omega (arith, end c))

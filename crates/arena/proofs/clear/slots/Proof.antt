@@ -15,31 +15,31 @@ use Rattle.arena.specs.Pieces.{partly, partly_none, partly_turn, partly_end}
 use Rattle.arena.proofs.clear.slots.Statement.{statement}
 use Rattle.arena.proofs.clear.slots.Tie as tie
 
-abbrev invariant-loop : tie.invariant-loop
+abbrev invariant-loop : tie.invariant-loop-i
 invariant-loop s k p₀ w i₀ p i = (i ≤ k) × (length p ≡ length p₀) × (p ≡ partly (tidy_slot s) (slot_width s) p₀ i)
 
-abbrev decreases-loop : tie.decreases-loop
+abbrev decreases-loop : tie.decreases-loop-i
 decreases-loop s k p₀ w i₀ p i = k - i
 
 -- in a turn, piece i is there
-fits : (c : tie.In-loop invariant-loop decreases-loop)
-    → (c.before.loop.i * c.before.before.slot-width.result + c.before.before.slot-width.result ≤ length
+fits : (c : tie.In-loop-i invariant-loop decreases-loop)
+    → (c.before.loop-i.i * c.before.before.slot_width-w.result + c.before.before.slot_width-w.result ≤ length
     c.before.before.before.before.args.p.now)
-    × (c.before.loop.i * slot_width c.before.before.before.before.args.s ≤ length c.before.before.before.before.args.p.now)
+    × (c.before.loop-i.i * slot_width c.before.before.before.before.args.s ≤ length c.before.before.before.before.args.p.now)
 fits c =
     let start = c.before.before.before.before in
-    turn_room c.before.loop.i start.args.k c.before.before.slot-width.result (slot_width start.args.s)
-    (length start.args.p.now) c.loop-test.true c.before.before.slot-width.ensures start.requires.1
+    turn_room c.before.loop-i.i start.args.k c.before.before.slot_width-w.result (slot_width start.args.s)
+    (length start.args.p.now) c.loop-i-test.true c.before.before.slot_width-w.ensures start.requires.1
 
 -- and so are all pieces
-all : (c : tie.After-slice-known invariant-loop decreases-loop) → c.before.args.k * slot_width c.before.args.s ≤ length c.before.args.p.now
+all : (c : tie.After-slice_known-1 invariant-loop decreases-loop) → c.before.args.k * slot_width c.before.args.s ≤ length c.before.args.p.now
 all c = let start = c.before in start.requires.1
 
-end : (c : tie.After-loop invariant-loop decreases-loop)
-    → c.before.before.before.before.args.k * c.before.before.slot-width.result ≤ length c.before.before.before.before.args.p.now
-end c = rw c.before.before.slot-width.ensures (all c.before.before.before)
+end : (c : tie.After-loop-i invariant-loop decreases-loop)
+    → c.before.before.before.before.args.k * c.before.before.slot_width-w.result ≤ length c.before.before.before.before.args.p.now
+end c = rw c.before.before.slot_width-w.ensures (all c.before.before.before)
 
-loop-holds : tie.Need-loop-init invariant-loop decreases-loop
+loop-holds : tie.Need-loop-i-init invariant-loop decreases-loop
 loop-holds c =
     let start = c.before.before in (
       search rules,
@@ -50,19 +50,19 @@ loop-holds c =
 
 tidy-requires : tie.Need-tidy-requires invariant-loop decreases-loop
 tidy-requires c κs =
-    let slot-width = c.before.before.before.slot-width in
+    let slot-width = c.before.before.before.slot_width-w in
     let start = c.before.before.before.before.before in
     let room = fits c.before in (
       start.requires.0,
-      slot_long start.args.s c.before.before.loop.p c.before.before.loop.i slot-width.result
+      slot_long start.args.s c.before.before.loop-i.p c.before.before.loop-i.i slot-width.result
           (record { sized = start.requires.0; room = rw (sym slot-width.ensures) (omega arith) }) slot-width.ensures,
     )
 
-loop-again : tie.Need-loop-preserved invariant-loop decreases-loop
+loop-again : tie.Need-loop-i-preserved invariant-loop decreases-loop
 unfolding put_stretch tidy_slot
 loop-again c =
-    let loop = c.before.before.before.before.before.loop in
-    let slot-width = c.before.before.before.before.before.before.slot-width in
+    let loop = c.before.before.before.before.before.loop-i in
+    let slot-width = c.before.before.before.before.before.before.slot_width-w in
     let start = c.before.before.before.before.before.before.before.before in
     let s = start.args.s in
     let i = loop.i in
@@ -75,10 +75,10 @@ loop-again c =
           c.before.before.tidy.ensures,
     )
 
-same_length : tie.Need-same-length invariant-loop decreases-loop
+same_length : tie.Need-shape_of-p invariant-loop decreases-loop
 same_length c =
-    let slot-width = c.before.before.before.before.before.before.slot-width in
-    let loop = c.before.before.before.before.before.loop in
+    let slot-width = c.before.before.before.before.before.before.slot_width-w in
+    let loop = c.before.before.before.before.before.loop-i in
     let start = c.before.before.before.before.before.before.before.before in
     let at = start.args.k * slot-width.result in
     same_len_mid at (length loop.p - at) loop.p c.before.before.zero.new.0 c.before.before.zero.auto.0 ∙ loop.invariant.1
@@ -86,16 +86,16 @@ same_length c =
 returns : tie.Need-returns invariant-loop decreases-loop
 unfolding put_stretch
 returns c =
-    let loop = c.before.before.before.before.before.loop in
-    let slot-width = c.before.before.before.before.before.before.slot-width in
+    let loop = c.before.before.before.before.before.loop-i in
+    let slot-width = c.before.before.before.before.before.before.slot_width-w in
     let start = c.before.before.before.before.before.before.before.before in
     let s = start.args.s in
     partly_end (tidy_slot s) (slot_width s) (slot_keeps s start.requires.0) start.args.p.now f0 loop.i slot-width.result start.args.k
     loop.p c.before.before.zero.new.0 slot-width.ensures (omega arith) (all c.before.before.before.before.before.before.before)
     loop.invariant.2 c.before.before.zero.ensures
 
-pub slots-spec : {M : Type 1} → statement M
-slots-spec =
+pub slots_spec : {M : Type 1} → statement M
+slots_spec =
     tie.close (tie.spec invariant-loop decreases-loop (λ c κs. search rules) loop-holds (λ c. omega (arith, fits c)) (λ c. omega (arith, fits c))
     (λ c. omega (arith, fits c)) (λ c. omega (arith, fits c)) (λ c. omega (arith, fits c)) (λ c. omega (arith, fits c)) tidy-requires
     (λ c. search rules) (λ c. search rules) loop-again (λ c. omega (arith, end c)) (λ c. omega (arith, end c)) (λ c. omega (arith, end c))

@@ -11,20 +11,20 @@ use Rattle.arena.specs.Numbered.{Changed}
 use Rattle.arena.proofs.entries.append.Statement.{statement}
 use Rattle.arena.proofs.entries.append.Tie as tie
 
-add_at : tie.Need-overflow-add-at
+add_at : tie.Need-overflow_add-at
 add_at c =
     let start = c.before.before in
     let k = caps_small start.args.s start.args.n _ start.requires.0 in
-    omega (arith, c.node-cap.ensures, start.requires.1)
+    omega (arith, c.node_cap.ensures, start.requires.1)
 
 store-requires : tie.Need-store-requires
 store-requires c κs =
     let start = c.before.before.before in (
-      next_place start.args.s start.args.n _ c.before.node-cap.result start.requires.0 start.requires.1 c.before.node-cap.ensures,
+      next_place start.args.s start.args.n _ c.before.node_cap.result start.requires.0 start.requires.1 c.before.node_cap.ensures,
       start.requires.2,
     )
 
-add-with-entries : tie.Need-overflow-add-with-entries
+add-with-entries : tie.Need-overflow_add-e
 add-with-entries c =
     let start = c.before.before.before.before.before.before in
     let k = caps_small start.args.s start.args.n _ start.requires.0 in
@@ -33,7 +33,7 @@ add-with-entries c =
 returns : tie.Need-returns
 returns c =
     let store = c.before.before.before.store in
-    let node-cap = c.before.before.before.before.before.node-cap in
+    let node-cap = c.before.before.before.before.before.node_cap in
     let start = c.before.before.before.before.before.before.before in
     let s = start.args.s in
     let n = start.args.n in
@@ -45,5 +45,5 @@ returns c =
           start.args.c k,
     )
 
-pub append-spec : {M : Type 1} → statement M
-append-spec = tie.close (tie.spec (λ c κs. search rules) add_at store-requires add-with-entries (λ c κs. search rules) (λ c. search rules) returns)
+pub append_spec : {M : Type 1} → statement M
+append_spec = tie.close (tie.spec (λ c κs. search rules) add_at store-requires add-with-entries (λ c κs. search rules) (λ c. search rules) returns)

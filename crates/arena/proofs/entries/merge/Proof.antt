@@ -11,23 +11,23 @@ use Rattle.arena.specs.Numbered.{Changed}
 use Rattle.arena.proofs.entries.merge.Statement.{statement}
 use Rattle.arena.proofs.entries.merge.Tie as tie
 
-add_at : tie.Need-overflow-add-at
+add_at : tie.Need-overflow_add-at
 add_at c =
     let start = c.before.before in
     let k = caps_small start.args.s start.args.n _ start.requires.0 in
-    omega (arith, c.node-cap.ensures, start.requires.0.entries_in)
+    omega (arith, c.node_cap.ensures, start.requires.0.entries_in)
 
 merge-requires : tie.Need-merge-requires
 merge-requires c κs =
     let start = c.before.before.before in (
-      entry_place start.args.s start.args.n _ start.args.i c.before.node-cap.result start.requires.0 start.requires.1
-          c.before.node-cap.ensures,
+      entry_place start.args.s start.args.n _ start.args.i c.before.node_cap.result start.requires.0 start.requires.1
+          c.before.node_cap.ensures,
       start.requires.2,
     )
 
 returns : tie.Need-returns
 returns c =
-    let node-cap = c.before.before.before.before.node-cap in
+    let node-cap = c.before.before.before.before.node_cap in
     let start = c.before.before.before.before.before.before in
     let s = start.args.s in
     let i = start.args.i in
@@ -37,5 +37,5 @@ returns c =
     c.before.before.merge.ensures in
     λ ls. entry_changed s start.args.n fs fs' ls _ start.requires.0 (λ x. merged s.feature s.dim x start.args.c) i start.requires.1 k
 
-pub merge-spec : {M : Type 1} → statement M
-merge-spec = tie.close (tie.spec (λ c κs. search rules) add_at merge-requires (λ c. search rules) returns)
+pub merge_spec : {M : Type 1} → statement M
+merge_spec = tie.close (tie.spec (λ c κs. search rules) add_at merge-requires (λ c. search rules) returns)

@@ -8,5 +8,5 @@ returns : tie.Need-returns
 unfolding between_of to_summary gap_of merge_cost
 returns c = λ ls. c.between.ensures ls
 
-pub merge-cost-spec : {M : Type 1} → statement M
-merge-cost-spec = tie.close (tie.spec (λ c κs. search rules) returns)
+pub merge_cost_spec : {M : Type 1} → statement M
+merge_cost_spec = tie.close (tie.spec (λ c κs. search rules) returns)

@@ -11,23 +11,23 @@ use Rattle.arena.specs.Numbered.{Changed}
 use Rattle.arena.proofs.entries.push.Statement.{statement}
 use Rattle.arena.proofs.entries.push.Tie as tie
 
-add_at : tie.Need-overflow-add-at
+add_at : tie.Need-overflow_add-at
 add_at c =
     let start = c.before.before.before in
     let k = caps_small start.args.s start.args.n _ start.requires.0 in
-    omega (arith, c.node-cap.ensures, start.requires.0.entries_in)
+    omega (arith, c.node_cap.ensures, start.requires.0.entries_in)
 
 push-requires : tie.Need-push-requires
 push-requires c κs =
     let start = c.before.before.before.before in (
-      entry_place start.args.s start.args.n _ start.args.i c.before.node-cap.result start.requires.0 start.requires.1
-          c.before.node-cap.ensures,
+      entry_place start.args.s start.args.n _ start.args.i c.before.node_cap.result start.requires.0 start.requires.1
+          c.before.node_cap.ensures,
       start.requires.2,
     )
 
 returns : tie.Need-returns
 returns c =
-    let node-cap = c.before.before.before.before.node-cap in
+    let node-cap = c.before.before.before.before.node_cap in
     let start = c.before.before.before.before.before.before.before in
     let s = start.args.s in
     let i = start.args.i in

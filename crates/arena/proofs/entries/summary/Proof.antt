@@ -8,24 +8,24 @@ use Rattle.arena.specs.Numbered.{summary_at}
 use Rattle.arena.proofs.entries.summary.Statement.{statement}
 use Rattle.arena.proofs.entries.summary.Tie as tie
 
-add_at : tie.Need-overflow-add-at
+add_at : tie.Need-overflow_add-at
 add_at c =
     let start = c.before.before in
     let k = caps_small start.args.s start.args.n _ start.requires.0 in
-    omega (arith, c.node-cap.ensures, start.requires.0.entries_in)
+    omega (arith, c.node_cap.ensures, start.requires.0.entries_in)
 
 load-requires : tie.Need-load-requires
 load-requires c κs =
     let start = c.before.before in
-    entry_place start.args.s start.args.n _ start.args.i c.node-cap.result start.requires.0 start.requires.1 c.node-cap.ensures
+    entry_place start.args.s start.args.n _ start.args.i c.node_cap.result start.requires.0 start.requires.1 c.node_cap.ensures
 
 returns : tie.Need-returns
 returns c =
     let start = c.before.before.before in
     let s = start.args.s in
     let fs = start.args.floats.now in
-    λ ls. c.load.ensures ∙ ap (λ r. summary_at s fs (r + start.args.i)) c.before.node-cap.ensures ∙ sym
+    λ ls. c.load.ensures ∙ ap (λ r. summary_at s fs (r + start.args.i)) c.before.node_cap.ensures ∙ sym
     (entry_at_lem s start.args.n fs ls start.args.i start.requires.1)
 
-pub summary-spec : {M : Type 1} → statement M
-summary-spec = tie.close (tie.spec (λ c κs. search rules) add_at load-requires returns)
+pub summary_spec : {M : Type 1} → statement M
+summary_spec = tie.close (tie.spec (λ c κs. search rules) add_at load-requires returns)

@@ -9,25 +9,25 @@ use Rattle.arena.specs.Numbered.{summary_at}
 use Rattle.arena.proofs.entries.to_summary.Statement.{statement}
 use Rattle.arena.proofs.entries.to_summary.Tie as tie
 
-add_at : tie.Need-overflow-add-at
+add_at : tie.Need-overflow_add-at
 add_at c =
     let start = c.before.before in
     let k = caps_small start.args.s start.args.n _ start.requires.0 in
-    omega (arith, c.node-cap.ensures, start.requires.0.entries_in)
+    omega (arith, c.node_cap.ensures, start.requires.0.entries_in)
 
-to-summary-requires : tie.Need-to-summary-requires
+to-summary-requires : tie.Need-to_summary-requires
 to-summary-requires c κs =
     let start = c.before.before in
-    entry_place start.args.s start.args.n _ start.args.i c.node-cap.result start.requires.0 start.requires.1 c.node-cap.ensures
+    entry_place start.args.s start.args.n _ start.args.i c.node_cap.result start.requires.0 start.requires.1 c.node_cap.ensures
 
 returns : tie.Need-returns
 returns c =
     let start = c.before.before.before in
     let s = start.args.s in
     let fs = start.args.floats.now in
-    λ ls. c.to-summary.ensures ∙ ap (λ x. between_of start.args.k s.feature s.dim x start.args.c)
-    (ap (λ r. summary_at s fs (r + start.args.i)) c.before.node-cap.ensures ∙ sym
+    λ ls. c.to_summary.ensures ∙ ap (λ x. between_of start.args.k s.feature s.dim x start.args.c)
+    (ap (λ r. summary_at s fs (r + start.args.i)) c.before.node_cap.ensures ∙ sym
     (entry_at_lem s start.args.n fs ls start.args.i start.requires.1))
 
-pub to-summary-spec : {M : Type 1} → statement M
-to-summary-spec = tie.close (tie.spec (λ c κs. search rules) add_at to-summary-requires returns)
+pub to_summary_spec : {M : Type 1} → statement M
+to_summary_spec = tie.close (tie.spec (λ c κs. search rules) add_at to-summary-requires returns)

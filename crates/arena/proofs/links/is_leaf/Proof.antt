@@ -10,7 +10,7 @@ use Rattle.arena.proofs.links.is_leaf.Tie as tie
 part-requires : tie.Need-part-requires
 part-requires c κs = let start = c.before in node_block start.args.s start.args.n _ start.args.i start.requires.0 start.requires.1
 
-is-leaf-requires : tie.Need-is-leaf-requires
+is-leaf-requires : tie.Need-is_leaf-requires
 is-leaf-requires c κs =
     let start = c.before.before in
     rw c.part.ensures (block_at_lem start.args.s start.args.links.now start.args.i
@@ -25,5 +25,5 @@ returns c =
     c.is_leaf.ensures p ∙ ap (λ b. part (node_in s p b)) c.before.part.ensures ∙ part_at s start.args.n fs start.args.links.now part
     start.args.i start.requires.1
 
-pub is-leaf-spec : {M : Type 1} → statement M
-is-leaf-spec = tie.close (tie.spec part-requires is-leaf-requires returns)
+pub is_leaf_spec : {M : Type 1} → statement M
+is_leaf_spec = tie.close (tie.spec part-requires is-leaf-requires returns)

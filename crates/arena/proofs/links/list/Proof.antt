@@ -24,5 +24,5 @@ returns c =
     c.list.ensures p ∙ ap (λ b. (node_in s p b).list) c.before.part.ensures
     ∙ part_at s start.args.n fs start.args.links.now (λ m. m.list) start.args.i start.requires.1
 
-pub list-spec : {M : Type 1} → statement M
-list-spec = tie.close (tie.spec part-requires list-requires returns)
+pub list_spec : {M : Type 1} → statement M
+list_spec = tie.close (tie.spec part-requires list-requires returns)

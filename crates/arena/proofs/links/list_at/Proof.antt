@@ -12,7 +12,7 @@ use Rattle.arena.proofs.links.list_at.Tie as tie
 part-requires : tie.Need-part-requires
 part-requires c κs = let start = c.before in node_block start.args.s start.args.n _ start.args.i start.requires.0 start.requires.1
 
-list-at-requires : tie.Need-list-at-requires
+list-at-requires : tie.Need-list_at-requires
 list-at-requires c κs =
     let start = c.before.before in
     rw c.part.ensures (
@@ -32,5 +32,5 @@ returns c =
       c.list_at.ensures.1,
     )
 
-pub list-at-spec : {M : Type 1} → statement M
-list-at-spec = tie.close (tie.spec part-requires list-at-requires returns)
+pub list_at_spec : {M : Type 1} → statement M
+list_at_spec = tie.close (tie.spec part-requires list-at-requires returns)

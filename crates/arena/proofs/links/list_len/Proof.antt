@@ -11,7 +11,7 @@ use Rattle.arena.proofs.links.list_len.Tie as tie
 part-requires : tie.Need-part-requires
 part-requires c κs = let start = c.before in node_block start.args.s start.args.n _ start.args.i start.requires.0 start.requires.1
 
-list-len-requires : tie.Need-list-len-requires
+list-len-requires : tie.Need-list_len-requires
 list-len-requires c κs =
     let start = c.before.before in
     rw c.part.ensures (block_at_lem start.args.s start.args.links.now start.args.i
@@ -23,8 +23,8 @@ returns c =
     let s = start.args.s in
     let part : Node → _ = λ m. length m.list in
     λ fs. let p = slot_at s fs start.args.i in
-    c.list-len.ensures p ∙ ap (λ b. part (node_in s p b)) c.before.part.ensures ∙ part_at s start.args.n fs start.args.links.now part
+    c.list_len.ensures p ∙ ap (λ b. part (node_in s p b)) c.before.part.ensures ∙ part_at s start.args.n fs start.args.links.now part
     start.args.i start.requires.1
 
-pub list-len-spec : {M : Type 1} → statement M
-list-len-spec = tie.close (tie.spec part-requires list-len-requires returns)
+pub list_len_spec : {M : Type 1} → statement M
+list_len_spec = tie.close (tie.spec part-requires list-len-requires returns)

@@ -10,7 +10,7 @@ use Rattle.arena.proofs.links.parent.Tie as tie
 part-requires : tie.Need-part-requires
 part-requires c κs = let start = c.before in node_block start.args.s start.args.n _ start.args.i start.requires.0 start.requires.1
 
-parent-of-requires : tie.Need-parent-of-requires
+parent-of-requires : tie.Need-parent_of-requires
 parent-of-requires c κs =
     let start = c.before.before in
     rw c.part.ensures (block_at_lem start.args.s start.args.links.now start.args.i
@@ -25,5 +25,5 @@ returns c =
     c.parent_of.ensures p ∙ ap (λ b. part (node_in s p b)) c.before.part.ensures ∙ part_at s start.args.n fs start.args.links.now part
     start.args.i start.requires.1
 
-pub parent-spec : {M : Type 1} → statement M
-parent-spec = tie.close (tie.spec part-requires parent-of-requires returns)
+pub parent_spec : {M : Type 1} → statement M
+parent_spec = tie.close (tie.spec part-requires parent-of-requires returns)

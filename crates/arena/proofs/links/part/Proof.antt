@@ -8,19 +8,19 @@ use Rattle.arena.proofs.links.part.Statement.{statement}
 use Rattle.arena.proofs.links.part.Tie as tie
 
 -- block i is there, by the width that the code has worked out
-fits : (c : tie.After-block-width)
-    → c.before.before.args.i * c.block-width.result + c.block-width.result ≤ length c.before.before.args.links.now
+fits : (c : tie.After-block_width-w)
+    → c.before.before.args.i * c.block_width-w.result + c.block_width-w.result ≤ length c.before.before.args.links.now
 fits c =
     let start = c.before.before in
-    block_fits start.args.s start.args.links.now start.args.i c.block-width.result start.requires c.block-width.ensures
+    block_fits start.args.s start.args.links.now start.args.i c.block_width-w.result start.requires c.block_width-w.ensures
 
 returns : tie.Need-returns
 returns c =
     let start = c.before.before.before in
-    block_cut start.args.s start.args.links.now start.args.i c.before.block-width.result start.requires
-    c.before.block-width.ensures
+    block_cut start.args.s start.args.links.now start.args.i c.before.block_width-w.result start.requires
+    c.before.block_width-w.ensures
 
-pub part-spec : {M : Type 1} → statement M
-part-spec =
+pub part_spec : {M : Type 1} → statement M
+part_spec =
     tie.close (tie.spec (λ c κs. search rules) (λ c. omega (arith, fits c)) (λ c. omega (arith, fits c)) (λ c. omega (arith, fits c))
     (λ c. search rules) (λ c. search rules) (λ c. omega (arith, fits c)) returns)

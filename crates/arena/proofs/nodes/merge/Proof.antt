@@ -18,5 +18,5 @@ returns c =
     λ ls. node_changed s start.args.n start.args.floats.now c.before.before.merge.new.1.0 ls _ start.requires.0
     (λ x. merged s.feature s.dim x start.args.c) start.args.i start.requires.1 c.before.before.merge.ensures
 
-pub merge-spec : {M : Type 1} → statement M
-merge-spec = tie.close (tie.spec merge-requires (λ c. search rules) returns)
+pub merge_spec : {M : Type 1} → statement M
+merge_spec = tie.close (tie.spec merge-requires (λ c. search rules) returns)

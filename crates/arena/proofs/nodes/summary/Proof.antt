@@ -13,5 +13,5 @@ returns c =
     let s = start.args.s in
     λ ls. c.load.ensures ∙ sym (summary-at s start.args.n start.args.floats.now ls start.args.i start.requires.1)
 
-pub summary-spec : {M : Type 1} → statement M
-summary-spec = tie.close (tie.spec load-requires returns)
+pub summary_spec : {M : Type 1} → statement M
+summary_spec = tie.close (tie.spec load-requires returns)

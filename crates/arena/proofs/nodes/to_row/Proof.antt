@@ -5,7 +5,7 @@ use Rattle.arena.specs.Trees.{node_slot, summary-at}
 use Rattle.arena.proofs.nodes.to_row.Statement.{statement}
 use Rattle.arena.proofs.nodes.to_row.Tie as tie
 
-to-row-requires : tie.Need-to-row-requires
+to-row-requires : tie.Need-to_row-requires
 to-row-requires c κs =
     let start = c.before.before in
     (node_slot start.args.s start.args.n _ start.args.i start.requires.0 start.requires.1, start.requires.2)
@@ -17,5 +17,5 @@ returns c =
     λ ls. c.to_row.ensures ∙ ap (λ x. point_of start.args.k s.feature s.dim x start.args.row.now)
     (sym (summary-at s start.args.n start.args.floats.now ls start.args.i start.requires.1))
 
-pub to-row-spec : {M : Type 1} → statement M
-to-row-spec = tie.close (tie.spec to-row-requires returns)
+pub to_row_spec : {M : Type 1} → statement M
+to_row_spec = tie.close (tie.spec to-row-requires returns)

@@ -14,5 +14,5 @@ returns c =
     λ ls. c.weight.ensures ∙ ap (λ x. x.weight) (sym
     (summary-at s start.args.n start.args.floats.now ls start.args.i start.requires.1))
 
-pub weight-spec : {M : Type 1} → statement M
-weight-spec = tie.close (tie.spec weight-requires returns)
+pub weight_spec : {M : Type 1} → statement M
+weight_spec = tie.close (tie.spec weight-requires returns)

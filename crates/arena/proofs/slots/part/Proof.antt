@@ -8,19 +8,19 @@ use Rattle.arena.proofs.slots.part.Statement.{statement}
 use Rattle.arena.proofs.slots.part.Tie as tie
 
 -- slot i is there, by the width that the code has worked out
-fits : (c : tie.After-slot-width)
-    → c.before.before.args.i * c.slot-width.result + c.slot-width.result ≤ length c.before.before.args.floats.now
+fits : (c : tie.After-slot_width-w)
+    → c.before.before.args.i * c.slot_width-w.result + c.slot_width-w.result ≤ length c.before.before.args.floats.now
 fits c =
     let start = c.before.before in
-    slot_fits start.args.s start.args.floats.now start.args.i c.slot-width.result start.requires c.slot-width.ensures
+    slot_fits start.args.s start.args.floats.now start.args.i c.slot_width-w.result start.requires c.slot_width-w.ensures
 
 returns : tie.Need-returns
 returns c =
     let start = c.before.before.before in
-    slot_cut start.args.s start.args.floats.now start.args.i c.before.slot-width.result start.requires
-    c.before.slot-width.ensures
+    slot_cut start.args.s start.args.floats.now start.args.i c.before.slot_width-w.result start.requires
+    c.before.slot_width-w.ensures
 
-pub part-spec : {M : Type 1} → statement M
-part-spec =
+pub part_spec : {M : Type 1} → statement M
+part_spec =
     tie.close (tie.spec (λ c κs. search rules) (λ c. omega (arith, fits c)) (λ c. omega (arith, fits c)) (λ c. omega (arith, fits c))
     (λ c. search rules) (λ c. search rules) (λ c. omega (arith, fits c)) returns)

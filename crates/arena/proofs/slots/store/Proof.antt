@@ -12,24 +12,24 @@ use Rattle.arena.proofs.slots.store.Statement.{statement}
 use Rattle.arena.proofs.slots.store.Tie as tie
 
 -- slot i is there, by the width that the code has worked out
-fits : (c : tie.After-slot-width)
-    → c.before.before.args.i * c.slot-width.result + c.slot-width.result ≤ length c.before.before.args.floats.now
+fits : (c : tie.After-slot_width-w)
+    → c.before.before.args.i * c.slot_width-w.result + c.slot_width-w.result ≤ length c.before.before.args.floats.now
 fits c =
     let start = c.before.before in
-    slot_fits start.args.s start.args.floats.now start.args.i c.slot-width.result start.requires.0 c.slot-width.ensures
+    slot_fits start.args.s start.args.floats.now start.args.i c.slot_width-w.result start.requires.0 c.slot_width-w.ensures
 
 store-requires : tie.Need-store-requires
 store-requires c κs =
     let start = c.before.before.before in (
       start.requires.0.sized,
-      slot_long start.args.s start.args.floats.now start.args.i c.before.slot-width.result start.requires.0
-          c.before.slot-width.ensures,
+      slot_long start.args.s start.args.floats.now start.args.i c.before.slot_width-w.result start.requires.0
+          c.before.slot_width-w.ensures,
     )
 
 returns : tie.Need-returns
 unfolding put_stretch
 returns c =
-    let slot-width = c.before.before.before.before.slot-width in
+    let slot-width = c.before.before.before.before.slot_width-w in
     let start = c.before.before.before.before.before.before in
     let s = start.args.s in
     slot_put s start.args.floats.now start.args.i slot-width.result start.requires.0 slot-width.ensures (λ _. start.args.c)

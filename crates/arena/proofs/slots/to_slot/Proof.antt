@@ -23,5 +23,5 @@ returns c =
     c.between.ensures ∙ ap (λ p. between_of start.args.k s.feature s.dim (summary_in s p) (summary_in s start.args.o.now))
     c.before.part.ensures
 
-pub to-slot-spec : {M : Type 1} → statement M
-to-slot-spec = tie.close (tie.spec (λ c κs. search rules) between-requires returns)
+pub to_slot_spec : {M : Type 1} → statement M
+to_slot_spec = tie.close (tie.spec (λ c κs. search rules) between-requires returns)

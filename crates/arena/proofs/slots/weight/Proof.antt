@@ -15,5 +15,5 @@ returns : tie.Need-returns
 unfolding summary_at
 returns c = let start = c.before.before.before in c.weight.ensures ∙ ap (λ p. (summary_in start.args.s p).weight) c.before.part.ensures
 
-pub weight-spec : {M : Type 1} → statement M
-weight-spec = tie.close (tie.spec (λ c κs. search rules) weight-requires returns)
+pub weight_spec : {M : Type 1} → statement M
+weight_spec = tie.close (tie.spec (λ c κs. search rules) weight-requires returns)

@@ -4,13 +4,13 @@ use Rattle.boundary.specs.Numbers.{answer_numbers}
 use Rattle.boundary.proofs.given.answer_numbers.Statement.{statement}
 use Rattle.boundary.proofs.given.answer_numbers.Tie as tie
 
-returns : tie.Need-returns
+returns : tie.Need-returns-in-Accepted
 unfolding answer_numbers
-returns c = rw c.before.enum_told.given.1 c.only.ensures
+returns c = rw c.before.in-Accepted.is c.only.ensures
 
-returns-2 : tie.Need-returns-2
+returns-2 : tie.Need-returns-in-Refused
 unfolding answer_numbers
-returns-2 c = rw c.before.before.a.given.1 c.refusal-numbers.ensures
+returns-2 c = rw c.before.before.a-1.given.1 c.refusal_numbers.ensures
 
-pub answer-numbers-spec : {M : Type 1} → statement M
-answer-numbers-spec = tie.close (tie.spec (λ c. search rules) (λ c κs. search rules) (λ c. search rules) (λ c κs. search rules) returns returns-2)
+pub answer_numbers_spec : {M : Type 1} → statement M
+answer_numbers_spec = tie.close (tie.spec (λ c. search rules) (λ c κs. search rules) (λ c. search rules) (λ c κs. search rules) returns returns-2)

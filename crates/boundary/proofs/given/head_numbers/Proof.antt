@@ -8,5 +8,5 @@ returns : tie.Need-returns
 unfolding head_numbers
 returns c = search rules
 
-pub head-numbers-spec : {M : Type 1} → statement M
-head-numbers-spec = tie.close (tie.spec returns)
+pub head_numbers_spec : {M : Type 1} → statement M
+head_numbers_spec = tie.close (tie.spec returns)

@@ -8,5 +8,5 @@ returns : tie.Need-returns
 unfolding head_of
 returns c = search rules
 
-pub head-of-spec : {M : Type 1} → statement M
-head-of-spec = tie.close (tie.spec returns)
+pub head_of_spec : {M : Type 1} → statement M
+head_of_spec = tie.close (tie.spec returns)

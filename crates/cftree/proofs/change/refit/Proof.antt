@@ -17,36 +17,36 @@ abbrev lent : tie.Start → Lent
 lent c = lending c.args.floats.now c.args.links.now c.args.scratch.now c.args.numbers.now
 
 -- where no refusal applies
-abbrev start : tie.After-enum-told → tie.Start
+abbrev start : tie.In-Accepted → tie.Start
 start c = c.before.before.before.before.before.before.before.before.before.before.before.before
 
-accepts : (c : tie.After-enum-told) → answer_of (refit_refusals (start c).args.h (lent (start c)) (start c).args.rows.now) ≡ Accepted
-accepts c = sym c.before.before.refit.ensures ∙ c.enum_told.given.1
+accepts : (c : tie.In-Accepted) → answer_of (refit_refusals (start c).args.h (lent (start c)) (start c).args.rows.now) ≡ Accepted
+accepts c = sym c.before.before.refit-answer.ensures ∙ c.in-Accepted.is
 
-returns : tie.Need-returns
+returns : tie.Need-returns-in_default
 unfolding batch_refitted
 returns c =
     let start = c.before.before.before.before.before.before.before.before.before.before.before.before in
-    refused_as_lent start.args.h (lent start) (refit_refusals start.args.h (lent start) start.args.rows.now) c.before.before.refit.ensures _ c.enum-told2.given.1
+    refused_as_lent start.args.h (lent start) (refit_refusals start.args.h (lent start) start.args.rows.now) c.before.before.refit-answer.ensures _ c.in_default.is
 
-div-change : tie.Need-nonzero-div-change
+div-change : tie.Need-nonzero_div-rows
 unfolding settings_of
 div-change c = (allowed-sized _ (refit_taken _ _ (start (c.before.before.before.before.before)).args.rows.now (accepts (c.before.before.before.before.before))).ready.allows).dim_some
 
-change-requires : tie.Need-change-requires
+change-requires : tie.Need-change-head-requires
 unfolding settings_of
 change-requires c κs =
     let start = start (c.before.before.before.before.before) in
     let h = start.args.h in
     let a = refit_taken h (lent start) start.args.rows.now (accepts (c.before.before.before.before.before)) in
-    ((a.ready, rows_in _ _), refittable h (lent start) a.ready _ c.before.before.before.before.before.before.before.before.before.before.before.before.before.before.before.before.slice-known.given _ a.room)
+    ((a.ready, rows_in _ _), refittable h (lent start) a.ready _ c.before.before.before.before.before.before.before.before.before.before.before.before.before.before.before.before.slice_known-1.given _ a.room)
 
-returns-2 : tie.Need-returns-2
+returns-2 : tie.Need-returns
 unfolding batch_refitted settings_of worked
 returns-2 c =
     let start = start (c.before.before.before.before.before.before.before.before.before.before.before.before.before.before) in
     let h = start.args.h in
-    done_as_ruled h (lent start) (refit_refusals h (lent start) start.args.rows.now) c.before.before.before.before.before.before.before.before.before.before.before.before.before.before.before.before.refit.ensures _ c.before.before.before.before.before.before.before.before.before.before.before.before.before.before.enum_told.given.1 c.before.before.before.before.before.before.before.before.change.ensures
+    done_as_ruled h (lent start) (refit_refusals h (lent start) start.args.rows.now) c.before.before.before.before.before.before.before.before.before.before.before.before.before.before.before.before.refit-answer.ensures _ c.before.before.before.before.before.before.before.before.before.before.before.before.before.before.enum_told-1.given.1 c.before.before.before.before.before.before.before.before.change-head.ensures
 
-pub refit-spec : {M : Type 1} → statement M
-refit-spec = tie.close (tie.spec (λ c κs. search rules) (λ c. search rules) (λ c. search rules) (λ c. search rules) (λ c. search rules) (λ c. search rules) (λ c. search rules) returns div-change change-requires (λ c. search rules) (λ c. search rules) (λ c. search rules) (λ c. search rules) returns-2)
+pub refit_spec : {M : Type 1} → statement M
+refit_spec = tie.close (tie.spec (λ c κs. search rules) (λ c. search rules) (λ c. search rules) (λ c. search rules) (λ c. search rules) (λ c. search rules) (λ c. search rules) returns div-change change-requires (λ c. search rules) (λ c. search rules) (λ c. search rules) (λ c. search rules) returns-2)

@@ -8,5 +8,5 @@ returns : tie.Need-returns
 unfolding validated
 returns c = c.look.ensures
 
-pub validate-spec : {M : Type 1} → statement M
-validate-spec = tie.close (tie.spec (λ c κs. search rules) returns)
+pub validate_spec : {M : Type 1} → statement M
+validate_spec = tie.close (tie.spec (λ c κs. search rules) returns)

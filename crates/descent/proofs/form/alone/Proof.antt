@@ -9,21 +9,21 @@ push-requires : tie.Need-push-requires
 push-requires c κs =
     let start = c.before.before.before.before in
     let sized = start.requires.0 in
-    ((sized.dim_some, sized.dim_few), row_fits _ _ _ c.before.enum_told.given.1 start.requires.1)
+    ((sized.dim_some, sized.dim_few), row_fits _ _ _ c.before.in-Row.is start.requires.1)
 
 load-requires : tie.Need-load-requires
 load-requires c κs =
     let start = c.before.before.before in
-    (start.requires.0, slot_fits _ _ _ c.enum-told2.given.1 start.requires.1)
+    (start.requires.0, slot_fits _ _ _ c.in-Slot.is start.requires.1)
 
-returns : tie.Need-returns
+returns : tie.Need-returns-in-Row
 unfolding item_of
-returns c = c.push.ensures ∙ rw (c.before.empty.ensures, c.before.before.enum_told.given.1)
+returns c = c.push.ensures ∙ rw (c.before.empty.ensures, c.before.before.enum_told-1.given.1)
 
-returns-2 : tie.Need-returns-2
+returns-2 : tie.Need-returns-in-Slot
 unfolding item_of
-returns-2 c = c.load.ensures ∙ rw c.before.enum-told2.given.1
+returns-2 c = c.load.ensures ∙ rw c.before.in-Slot.is
 
-pub alone-spec : {M : Type 1} → statement M
-alone-spec =
+pub alone_spec : {M : Type 1} → statement M
+alone_spec =
     tie.close (tie.spec (λ c. search rules) (λ c κs. search rules) push-requires (λ c. search rules) load-requires returns returns-2)

@@ -9,29 +9,29 @@ use Rattle.descent.proofs.form.feed.Tie as tie
 push-requires : tie.Need-push-requires
 push-requires c κs =
     let start = c.before.before.before.before.before in
-    (start.requires.0, start.requires.1, row_fits _ _ _ c.before.enum_told.given.1 start.requires.2)
+    (start.requires.0, start.requires.1, row_fits _ _ _ c.before.in-Row.is start.requires.2)
 
 load-requires : tie.Need-load-requires
 load-requires c κs =
     let start = c.before.before.before.before.before in
-    (start.requires.0.sized, slot_fits _ _ _ c.before.enum-told2.given.1 start.requires.2)
+    (start.requires.0.sized, slot_fits _ _ _ c.before.in-Slot.is start.requires.2)
 
 merge-requires : tie.Need-merge-requires
 merge-requires c κs =
     let start = c.before.before.before.before.before.before in
     (start.requires.0, start.requires.1, rw c.load.ensures (in_shaped start.args.s start.requires.0.sized start.args.x.now))
 
-returns : tie.Need-returns
+returns : tie.Need-returns-in-Row
 unfolding item_of
-returns c = λ ls. c.before.before.push.ensures ls ∙ rw c.before.before.before.before.enum_told.given.1
+returns c = λ ls. c.before.before.push.ensures ls ∙ rw c.before.before.before.before.enum_told-1.given.1
 
-returns-2 : tie.Need-returns-2
+returns-2 : tie.Need-returns-in-Slot
 unfolding item_of
 returns-2 c =
     λ ls. c.before.before.merge.ensures ls
-    ∙ rw (c.before.before.before.load.ensures, c.before.before.before.before.before.enum-told2.given.1)
+    ∙ rw (c.before.before.before.load.ensures, c.before.before.before.before.before.enum_told-in-Slot-1.given.1)
 
-pub feed-spec : {M : Type 1} → statement M
-feed-spec =
+pub feed_spec : {M : Type 1} → statement M
+feed_spec =
     tie.close (tie.spec (λ c. search rules) push-requires (λ c. search rules) load-requires merge-requires (λ c. search rules) returns
     (λ c. search rules) returns-2)

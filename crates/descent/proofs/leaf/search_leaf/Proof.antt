@@ -13,50 +13,51 @@ use Rattle.descent.specs.Searched.{Inside, inside_entry, inside_nothing, entry_d
 use Rattle.descent.specs.Searched.{search_start, search_taken, search_left, search_end}
 use Rattle.descent.proofs.leaf.search_leaf.Statement.{statement}
 use Rattle.descent.proofs.leaf.search_leaf.Tie as tie
+use Rattle.descent.proofs.leaf.search_leaf.Lts.{else-d-least, then-d-least}
 
-abbrev invariant-loop : tie.invariant-loop
+abbrev invariant-loop : tie.invariant-loop-k
 invariant-loop s n floats list row dist near₀ least₀ k₀ near least k =
     Inside n.entries near
     × AnyLinks s n floats (λ t. searched_from (entry_distance s row t) list k near least ≡ searched (entry_distance s row t) list)
 
-abbrev decreases-loop : tie.decreases-loop
+abbrev decreases-loop : tie.decreases-loop-k
 decreases-loop s n floats list row dist near₀ least₀ k₀ near least k = length list - k
 
 -- the start, from a turn's read
-abbrev turn : tie.After-shared-slice-known4 invariant-loop decreases-loop → tie.Start invariant-loop decreases-loop
+abbrev turn : tie.After-shared_slice_known-in-loop-k-1 invariant-loop decreases-loop → tie.Start invariant-loop decreases-loop
 turn c = c.before.before.before.before.before.before
 
-loop-holds : tie.Need-loop-init invariant-loop decreases-loop
+loop-holds : tie.Need-loop-k-init invariant-loop decreases-loop
 unfolding div of_bits
 loop-holds c = (inside_nothing _, λ ls. search_start _ _)
 
-to-row-requires : tie.Need-to-row-requires invariant-loop decreases-loop
-to-row-requires c κs = let start = turn c in (start.pre.0, entry_listed _ _ start.pre.2 _ c.before.loop-test.true, start.pre.1)
+to-row-requires : tie.Need-to_row-d-requires invariant-loop decreases-loop
+to-row-requires c κs = let start = turn c in (start.requires.0, entry_listed _ _ start.requires.2 _ c.before.loop-k-test.true, start.requires.1)
 
-loop-again : tie.Need-loop-preserved invariant-loop decreases-loop
+loop-again : tie.Need-loop-k-preserved invariant-loop decreases-loop
 loop-again c =
     let start = turn c.before.before in
-    let loop = c.before.before.before.before.loop in
-    let more = c.before.before.before.loop-test.true in
-    let far = c.before.to_row.ensures in
-    elim c.if1.branch [
-      | inl w ↦ (
-        rw w.1 (inside_entry _ _ (entry_listed _ _ start.pre.2 _ more)),
-        λ ls. rw (w.1, w.2) (search_taken _ _ loop.k loop.near loop.least more (far ls) w.0.taken ∙ loop.invariant.1 ls),
+    let loop = c.before.before.before.before.loop-k in
+    let more = c.before.before.before.loop-k-test.true in
+    let far = c.before.to_row-d.ensures in
+    elim c.if-d-least.branch [
+      | then-d-least w ↦ (
+        rw w.1 (inside_entry _ _ (entry_listed _ _ start.requires.2 _ more)),
+        λ ls. rw (w.1, w.2) (search_taken _ _ loop.k loop.near loop.least more (far ls) w.if-d-least.true ∙ loop.invariant.1 ls),
       )
-      | inr w ↦ (
+      | else-d-least w ↦ (
         rw w.1 loop.invariant.0,
-        λ ls. rw (w.1, w.2) (search_left _ _ loop.k loop.near loop.least more (far ls) w.0.left ∙ loop.invariant.1 ls),
+        λ ls. rw (w.1, w.2) (search_left _ _ loop.k loop.near loop.least more (far ls) w.if-d-least.false ∙ loop.invariant.1 ls),
       )
     ]
 
 returns : tie.Need-returns invariant-loop decreases-loop
 returns c =
-    let loop = c.before.loop in
+    let loop = c.before.loop-k in
     (λ ls. sym (search_end _ _ loop.k loop.near loop.least (omega arith)) ∙ loop.invariant.1 ls, loop.invariant.0)
 
-pub search-leaf-spec : {M : Type 1} → statement M
-search-leaf-spec =
+pub search_leaf_spec : {M : Type 1} → statement M
+search_leaf_spec =
     tie.close (tie.spec invariant-loop decreases-loop loop-holds (λ c. search rules) (λ c. search rules)
-    (λ c. omega (arith, c.shared-slice-known4.given c.before.before.loop.k)) to-row-requires (λ c. search rules) (λ c. search rules) loop-again
+    (λ c. omega (arith, c.shared_slice_known-in-loop-k-1.given c.before.before.loop-k.k)) to-row-requires (λ c. search rules) (λ c. search rules) loop-again
     returns)

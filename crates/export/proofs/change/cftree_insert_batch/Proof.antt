@@ -8,10 +8,10 @@ use Rattle.export.proofs.change.cftree_insert_batch.Tie as tie
 returns : tie.Need-returns
 returns c =
     let call = c.before.before.before.before.before.before.before.before.before in
-    rw (sym call.before.before.before.before.before.head_of.ensures) (left-numbers c.outcome-numbers.ensures call.insert-batch.ensures)
+    rw (sym call.before.before.before.before.before.head_of-h.ensures) (left-numbers c.outcome_numbers.ensures call.insert_batch-outcome.ensures)
 
-pub cftree-insert-batch-spec : {M : Type 1} → statement M
-cftree-insert-batch-spec =
+pub cftree_insert_batch_spec : {M : Type 1} → statement M
+cftree_insert_batch_spec =
     tie.close
     (tie.spec
     (λ c κs. search rules) (λ c κs. search rules) (λ c κs. search rules)

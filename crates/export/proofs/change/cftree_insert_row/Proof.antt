@@ -8,10 +8,10 @@ use Rattle.export.proofs.change.cftree_insert_row.Tie as tie
 returns : tie.Need-returns
 returns c =
     let call = c.before.before.before.before.before.before.before.before.before in
-    rw (sym call.before.before.before.before.before.head_of.ensures) (left-numbers c.outcome-numbers.ensures call.insert-row.ensures)
+    rw (sym call.before.before.before.before.before.head_of-h.ensures) (left-numbers c.outcome_numbers.ensures call.insert_row-outcome.ensures)
 
-pub cftree-insert-row-spec : {M : Type 1} → statement M
-cftree-insert-row-spec =
+pub cftree_insert_row_spec : {M : Type 1} → statement M
+cftree_insert_row_spec =
     tie.close
     (tie.spec
     (λ c κs. search rules) (λ c κs. search rules) (λ c κs. search rules)

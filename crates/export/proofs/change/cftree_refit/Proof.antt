@@ -8,10 +8,10 @@ use Rattle.export.proofs.change.cftree_refit.Tie as tie
 returns : tie.Need-returns
 returns c =
     let call = c.before.before.before.before.before.before.before.before.before in
-    rw (sym call.before.before.before.before.before.head_of.ensures) (left-numbers c.outcome-numbers.ensures call.refit.ensures)
+    rw (sym call.before.before.before.before.before.head_of-h.ensures) (left-numbers c.outcome_numbers.ensures call.refit-outcome.ensures)
 
-pub cftree-refit-spec : {M : Type 1} → statement M
-cftree-refit-spec =
+pub cftree_refit_spec : {M : Type 1} → statement M
+cftree_refit_spec =
     tie.close
     (tie.spec
     (λ c κs. search rules) (λ c κs. search rules) (λ c κs. search rules)

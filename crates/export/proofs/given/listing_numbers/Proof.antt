@@ -6,7 +6,7 @@ use Rattle.export.proofs.given.listing_numbers.Tie as tie
 
 returns : tie.Need-returns
 unfolding listed_numbers
-returns c = rw c.answer-numbers.ensures
+returns c = rw c.answer_numbers-answer.ensures
 
-pub listing-numbers-spec : {M : Type 1} → statement M
-listing-numbers-spec = tie.close (tie.spec (λ c κs. search rules) returns)
+pub listing_numbers_spec : {M : Type 1} → statement M
+listing_numbers_spec = tie.close (tie.spec (λ c κs. search rules) returns)

@@ -8,20 +8,20 @@ use Rattle.export.specs.Given.{none_needed, some-needed}
 use Rattle.export.proofs.sizes.cftree_floats_needed.Statement.{statement}
 use Rattle.export.proofs.sizes.cftree_floats_needed.Tie as tie
 
-returns : tie.Need-returns
-returns c = none_needed _ c.before.before.head_of.ensures (sym c.before.is-allowed.ensures ∙ not-true _ c.if1.true)
+returns : tie.Need-returns-then-not-is_allowed
+returns c = none_needed _ c.before.before.head_of-h.ensures (sym c.before.is_allowed.ensures ∙ not-true _ c.if-not-is_allowed.true-raw)
 
-allows : (c : tie.Else1) → allowed c.before.before.head_of.result ≡ true
-allows c = sym c.before.is-allowed.ensures ∙ not-false _ c.if1.false
+allows : (c : tie.Else-not-is_allowed) → allowed c.before.before.head_of-h.result ≡ true
+allows c = sym c.before.is_allowed.ensures ∙ not-false _ c.if-not-is_allowed.false-raw
 
-floats-needed-requires : tie.Need-floats-needed-requires
-floats-needed-requires c κs = rw c.settings.ensures (allowed-sized _ (allows c.before))
+floats-needed-requires : tie.Need-floats_needed-requires
+floats-needed-requires c κs = rw c.settings-s.ensures (allowed-sized _ (allows c.before))
 
-returns-2 : tie.Need-returns-2
+returns-2 : tie.Need-returns
 returns-2 c =
     let allowed = c.before.before in
-    c.floats-needed.ensures ∙ rw c.before.settings.ensures (some-needed _ allowed.before.before.head_of.ensures (allows allowed))
+    c.floats_needed.ensures ∙ rw c.before.settings-s.ensures (some-needed _ allowed.before.before.head_of-h.ensures (allows allowed))
 
-pub cftree-floats-needed-spec : {M : Type 1} → statement M
-cftree-floats-needed-spec =
+pub cftree_floats_needed_spec : {M : Type 1} → statement M
+cftree_floats_needed_spec =
     tie.close (tie.spec (λ c κs. search rules) (λ c κs. search rules) returns (λ c κs. search rules) floats-needed-requires returns-2)

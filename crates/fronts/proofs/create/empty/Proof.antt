@@ -8,21 +8,21 @@ use Rattle.fronts.proofs.create.empty.Statement.{statement}
 use Rattle.fronts.proofs.create.empty.Tie as tie
 
 -- once the counters of an empty tree are there
-abbrev start : tie.After-new → tie.Start
+abbrev start : tie.After-new-n → tie.Start
 start c = c.before.before.before
 
 -- the slices that it is written to
-new : (c : tie.After-new)
-    → TreeFronts (start c).args.s c.new.result (length (start c).args.floats.now) (length (start c).args.links.now)
-new c = new_fronts (start c).args.s (start c).requires.0 c.new.result (start c).args.threshold c.new.ensures (start c).requires.1 (start c).requires.2
+new : (c : tie.After-new-n)
+    → TreeFronts (start c).args.s c.new-n.result (length (start c).args.floats.now) (length (start c).args.links.now)
+new c = new_fronts (start c).args.s (start c).requires.0 c.new-n.result (start c).args.threshold c.new-n.ensures (start c).requires.1 (start c).requires.2
 
-clear-requires : tie.Need-clear-requires
+clear-requires : tie.Need-clear-m-requires
 clear-requires c κs = let t = new c.before.before in (t.floats_in_lem, t.links_in)
 
 tidy-requires : tie.Need-tidy-requires
 tidy-requires c κs =
     let made = c.before.before.before.before.before.before.before.before.before in
-    let clear = c.before.before.before.before.before.before.clear in
+    let clear = c.before.before.before.before.before.before.clear-m in
     let s = (start made).args.s in
     let n = made.new.result in
     tree_fronts (new made) clear.auto.1.1.0 clear.auto.1.1.1.0 (floats-cleared s n _ clear.ensures.0 (new made).floats_in_lem)
@@ -35,7 +35,7 @@ returns c =
     let tidy = c.before.before.before.before.tidy in
     let a = (start made).args in
     let empty = new-cleared a.s (start made).requires.0 made.new.result a.threshold made.new.ensures a.floats.now a.links.now in
-    subst (λ t. TreeLeft a.s t clear.clear.result tidy.new.1.1.0 tidy.new.1.1.1.0) (clear.clear.ensures.1 ∙ empty) tidy.ensures
+    subst (λ t. TreeLeft a.s t clear.clear-m.result tidy.new.1.1.0 tidy.new.1.1.1.0) (clear.clear-m.ensures.links_after ∙ empty) tidy.ensures
 
-pub empty-spec : {M : Type 1} → statement M
-empty-spec = tie.close (tie.spec (λ c κs. search rules) clear-requires tidy-requires (λ c. search rules) (λ c. search rules) returns)
+pub empty_spec : {M : Type 1} → statement M
+empty_spec = tie.close (tie.spec (λ c κs. search rules) clear-requires tidy-requires (λ c. search rules) (λ c. search rules) returns)

@@ -19,5 +19,5 @@ returns c =
       links = c.before.before.links.ensures a.floats.now;
     }
 
-pub tidy-spec : {M : Type 1} → statement M
-tidy-spec = tie.close (tie.spec floats-requires links-requires (λ c. search rules) (λ c. search rules) returns)
+pub tidy_spec : {M : Type 1} → statement M
+tidy_spec = tie.close (tie.spec floats-requires links-requires (λ c. search rules) (λ c. search rules) returns)

@@ -15,8 +15,8 @@ returns c =
     record {
       tree = c.before.before.before.before.before.before.before.before.before.before.before.before.tidy.ensures;
       scratch = c.before.before.before.before.before.before.zero.ensures ∙ ap (λ k. replicate k f0) start.requires.scratch_exact;
-      numbers = c.before.before.zero2.ensures ∙ ap (λ k. replicate k 0) start.requires.numbers_exact;
+      numbers = c.before.before.zero-2.ensures ∙ ap (λ k. replicate k 0) start.requires.numbers_exact;
     }
 
-pub tidy-all-spec : {M : Type 1} → statement M
-tidy-all-spec = tie.close (tie.spec tidy-requires (λ c κs. search rules) (λ c κs. search rules) (λ c. search rules) (λ c. search rules) (λ c. search rules) (λ c. search rules) returns)
+pub tidy_all_spec : {M : Type 1} → statement M
+tidy_all_spec = tie.close (tie.spec tidy-requires (λ c κs. search rules) (λ c κs. search rules) (λ c. search rules) (λ c. search rules) (λ c. search rules) (λ c. search rules) returns)

@@ -14,38 +14,38 @@ use Rattle.halves.specs.Seeds.{seeds_of, farther_yes, farther_no, with_turn, wit
 use Rattle.halves.proofs.seeds.wider.Statement.{statement}
 use Rattle.halves.proofs.seeds.wider.Tie as tie
 
-abbrev invariant-loop : tie.invariant-loop
+abbrev invariant-loop : tie.invariant-loop-j
 invariant-loop s n floats leaf list k dist c a₀ b₀ most₀ j₀ a b most j =
     (j ≤ length list) × (a < length list) × (b < length list)
     × AnyLinks s n floats (λ t.
     seeds_with s k (child t leaf (get_or list k 0)) j (map (child t leaf) (drop j list)) (seeds a b most)
     ≡ seeds_with s k (child t leaf (get_or list k 0)) (k + 1) (map (child t leaf) (drop (k + 1) list)) (seeds a₀ b₀ most₀))
 
-abbrev decreases-loop : tie.decreases-loop
+abbrev decreases-loop : tie.decreases-loop-j
 decreases-loop s n floats leaf list k dist c a₀ b₀ most₀ j₀ a b most j = length list - j
 
-cast-c : tie.Need-overflow-cast-c invariant-loop decreases-loop
-cast-c c = omega (arith, c.shared-slice-known3.given c.before.before.before.args.k)
+cast-c : tie.Need-overflow_cast-c invariant-loop decreases-loop
+cast-c c = omega (arith, c.shared_slice_known-3-1.given c.before.before.before.args.k)
 
-loop-holds : tie.Need-loop-init invariant-loop decreases-loop
+loop-holds : tie.Need-loop-j-init invariant-loop decreases-loop
 loop-holds c = let start = c.before.before.before in (omega (arith, start.requires.2), start.requires.3.0, start.requires.3.1, λ ls. refl)
 
-cast-between : tie.Need-overflow-cast-between invariant-loop decreases-loop
-cast-between c = omega (arith, c.shared-slice-known4.given c.before.before.loop.j)
+cast-between : tie.Need-overflow_cast-list invariant-loop decreases-loop
+cast-between c = omega (arith, c.shared_slice_known-in-loop-j-1.given c.before.before.loop-j.j)
 
-between-requires : tie.Need-between-requires invariant-loop decreases-loop
+between-requires : tie.Need-between-d-requires invariant-loop decreases-loop
 unfolding ChildrenIn
 between-requires c κs =
     let start = c.before.before.before.before.before.before in
-    (start.requires.0, start.requires.1 start.args.k start.requires.2, start.requires.1 c.before.before.loop.j c.before.loop-test.true)
+    (start.requires.0, start.requires.1 start.args.k start.requires.2, start.requires.1 c.before.before.loop-j.j c.before.loop-j-test.true)
 
-loop-again : tie.Need-loop-preserved invariant-loop decreases-loop
+loop-again : tie.Need-loop-j-preserved invariant-loop decreases-loop
 loop-again c =
     let start = c.before.before.before.before.before.before.before.before in
     let a = start.args in
-    let loop = c.before.before.before.before.loop in
-    let taken = c.before.before.before.loop-test.true in
-    let d = c.before.between in
+    let loop = c.before.before.before.before.loop-j in
+    let taken = c.before.before.before.loop-j-test.true in
+    let d = c.before.between-d in
     let u = seeds loop.a loop.b loop.most in
     ⊎_elim
     (λ w. (
@@ -54,7 +54,7 @@ loop-again c =
       rw w.2 taken,
       λ ls. let f = child (tree_of a.s a.n a.floats.now ls) a.leaf in rw (w.1, w.2, w.3)
           (with_turn a.s f a.list.now a.k _ loop.j u taken (d.ensures ls)
-          (farther_yes loop.a loop.b loop.most a.k loop.j d.result w.0.taken) ∙ loop.invariant.3 ls),
+          (farther_yes loop.a loop.b loop.most a.k loop.j d.result w.0.true) ∙ loop.invariant.3 ls),
     ))
     (λ w. (
       omega arith,
@@ -62,21 +62,21 @@ loop-again c =
       rw w.2 loop.invariant.2,
       λ ls. let f = child (tree_of a.s a.n a.floats.now ls) a.leaf in rw (w.1, w.2, w.3)
           (with_turn a.s f a.list.now a.k _ loop.j u taken (d.ensures ls)
-          (farther_no loop.a loop.b loop.most a.k loop.j d.result w.0.left) ∙ loop.invariant.3 ls),
+          (farther_no loop.a loop.b loop.most a.k loop.j d.result w.0.false) ∙ loop.invariant.3 ls),
     ))
-    c.if1.branch
+    c.if-most-d.branch
 
 returns : tie.Need-returns invariant-loop decreases-loop
 unfolding seeds_of
 returns c =
     let a = c.before.before.before.before.before.args in
-    let loop = c.before.loop in (
+    let loop = c.before.loop-j in (
       λ ls. sym (with_end a.s (child (tree_of a.s a.n a.floats.now ls) a.leaf) a.list.now a.k _ loop.j
           (seeds loop.a loop.b loop.most) (omega arith)) ∙ loop.invariant.3 ls,
       (loop.invariant.1, loop.invariant.2),
     )
 
-pub wider-spec : {M : Type 1} → statement M
-wider-spec =
+pub wider_spec : {M : Type 1} → statement M
+wider_spec =
     tie.close (tie.spec invariant-loop decreases-loop (λ c. search rules) (λ c. search rules) cast-c (λ c. search rules) loop-holds (λ c. search rules)
     (λ c. search rules) cast-between between-requires (λ c. omega arith) (λ c. omega arith) loop-again returns)

@@ -8,5 +8,5 @@ returns : tie.Need-returns
 unfolding count_entries
 returns c = refl
 
-pub with-entries-spec : {M : Type 1} → statement M
-with-entries-spec = tie.close (tie.spec returns)
+pub with_entries_spec : {M : Type 1} → statement M
+with_entries_spec = tie.close (tie.spec returns)

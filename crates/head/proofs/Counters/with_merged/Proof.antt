@@ -8,5 +8,5 @@ returns : tie.Need-returns
 unfolding count_running with_merged
 returns c = refl
 
-pub with-merged-spec : {M : Type 1} → statement M
-with-merged-spec = tie.close (tie.spec returns)
+pub with_merged_spec : {M : Type 1} → statement M
+with_merged_spec = tie.close (tie.spec returns)

@@ -8,5 +8,5 @@ returns : tie.Need-returns
 unfolding count_nodes
 returns c = refl
 
-pub with-nodes-spec : {M : Type 1} → statement M
-with-nodes-spec = tie.close (tie.spec returns)
+pub with_nodes_spec : {M : Type 1} → statement M
+with_nodes_spec = tie.close (tie.spec returns)

@@ -8,5 +8,5 @@ returns : tie.Need-returns
 unfolding count_running with_rebuilds
 returns c = refl
 
-pub with-rebuilds-spec : {M : Type 1} → statement M
-with-rebuilds-spec = tie.close (tie.spec returns)
+pub with_rebuilds_spec : {M : Type 1} → statement M
+with_rebuilds_spec = tie.close (tie.spec returns)

@@ -8,5 +8,5 @@ returns : tie.Need-returns
 unfolding root_at
 returns c = refl
 
-pub with-root-spec : {M : Type 1} → statement M
-with-root-spec = tie.close (tie.spec returns)
+pub with_root_spec : {M : Type 1} → statement M
+with_root_spec = tie.close (tie.spec returns)

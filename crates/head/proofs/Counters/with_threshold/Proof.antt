@@ -8,5 +8,5 @@ returns : tie.Need-returns
 unfolding count_running with_threshold
 returns c = refl
 
-pub with-threshold-spec : {M : Type 1} → statement M
-with-threshold-spec = tie.close (tie.spec returns)
+pub with_threshold_spec : {M : Type 1} → statement M
+with_threshold_spec = tie.close (tie.spec returns)

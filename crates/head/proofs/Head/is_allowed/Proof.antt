@@ -5,30 +5,30 @@ use borrow.Author.Tests.{not-true, not-false}
 use Rattle.head.proofs.Head.is_allowed.Statement.{statement}
 use Rattle.head.proofs.Head.is_allowed.Tie as tie
 
-returns : tie.Need-returns
+returns : tie.Need-returns-then-not-are_sizes_within
 unfolding allowed
-returns c = rw (← c.before.are-sizes-within.ensures, not-true c.before.are-sizes-within.result c.if1.true)
+returns c = rw (← c.before.are_sizes_within.ensures, not-true c.before.are_sizes_within.result c.if-not-are_sizes_within.true-raw)
 
-returns-2 : tie.Need-returns-2
+returns-2 : tie.Need-returns-then-not-are_choices_within
 unfolding allowed
 returns-2 c =
     rw (
-      ← c.before.before.before.are-sizes-within.ensures,
-      not-false c.before.before.before.are-sizes-within.result c.before.before.if1.false,
-      ← c.before.are-choices-within.ensures,
-      not-true c.before.are-choices-within.result c.if2.true,
+      ← c.before.before.before.are_sizes_within.ensures,
+      not-false c.before.before.before.are_sizes_within.result c.before.before.if-not-are_sizes_within.false-raw,
+      ← c.before.are_choices_within.ensures,
+      not-true c.before.are_choices_within.result c.if-not-are_choices_within.true-raw,
     )
 
-returns-3 : tie.Need-returns-3
+returns-3 : tie.Need-returns
 unfolding allowed
 returns-3 c =
     rw (
-      ← c.before.before.before.before.are-sizes-within.ensures,
-      not-false c.before.before.before.before.are-sizes-within.result c.before.before.before.if1.false,
-      ← c.before.before.are-choices-within.ensures,
-      not-false c.before.before.are-choices-within.result c.before.if2.false,
-      ← c.is-threshold-within.ensures,
+      ← c.before.before.before.before.are_sizes_within.ensures,
+      not-false c.before.before.before.before.are_sizes_within.result c.before.before.before.if-not-are_sizes_within.false-raw,
+      ← c.before.before.are_choices_within.ensures,
+      not-false c.before.before.are_choices_within.result c.before.if-not-are_choices_within.false-raw,
+      ← c.is_threshold_within.ensures,
     )
 
-pub is-allowed-spec : {M : Type 1} → statement M
-is-allowed-spec = tie.close (tie.spec (λ c κs. search rules) returns (λ c κs. search rules) returns-2 (λ c κs. search rules) returns-3)
+pub is_allowed_spec : {M : Type 1} → statement M
+is_allowed_spec = tie.close (tie.spec (λ c κs. search rules) returns (λ c κs. search rules) returns-2 (λ c κs. search rules) returns-3)

@@ -6,7 +6,7 @@ use Rattle.head.proofs.Head.new.Tie as tie
 
 returns : tie.Need-returns
 unfolding new_head
-returns c = rw c.new.ensures
+returns c = rw c.new-counters.ensures
 
 pub new_spec : {M : Type 1} → statement M
 new_spec = tie.close (tie.spec (λ c κs. search rules) returns)

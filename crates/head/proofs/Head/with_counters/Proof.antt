@@ -8,5 +8,5 @@ returns : tie.Need-returns
 unfolding with_counters
 returns c = refl
 
-pub with-counters-spec : {M : Type 1} → statement M
-with-counters-spec = tie.close (tie.spec returns)
+pub with_counters_spec : {M : Type 1} → statement M
+with_counters_spec = tie.close (tie.spec returns)

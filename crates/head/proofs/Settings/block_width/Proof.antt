@@ -5,13 +5,13 @@ use Rattle.head.specs.Sizes.{block_width}
 use Rattle.head.proofs.Settings.block_width.Statement.{statement}
 use Rattle.head.proofs.Settings.block_width.Tie as tie
 
-returns : tie.Need-returns
+returns : tie.Need-returns-then-self
 unfolding block_width
 returns c = omega arith
 
-returns-2 : tie.Need-returns-2
+returns-2 : tie.Need-returns-else-self
 unfolding block_width
 returns-2 c = omega arith
 
-pub block-width-spec : {M : Type 1} → statement M
-block-width-spec = tie.close (tie.spec (λ c. search rules) (λ c. search rules) returns returns-2)
+pub block_width_spec : {M : Type 1} → statement M
+block_width_spec = tie.close (tie.spec (λ c. search rules) (λ c. search rules) returns returns-2)

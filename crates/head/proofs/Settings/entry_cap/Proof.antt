@@ -9,5 +9,5 @@ returns : tie.Need-returns
 unfolding entry_cap
 returns c = refl
 
-pub entry-cap-spec : {M : Type 1} → statement M
-entry-cap-spec = tie.close (tie.spec (λ c. search rules) returns)
+pub entry_cap_spec : {M : Type 1} → statement M
+entry_cap_spec = tie.close (tie.spec (λ c. search rules) returns)

@@ -6,12 +6,12 @@ use Rattle.head.specs.Sizes.{node_cap, product_small}
 use Rattle.head.proofs.Settings.node_cap.Statement.{statement}
 use Rattle.head.proofs.Settings.node_cap.Tie as tie
 
-mul-result : tie.Need-overflow-mul-result
+mul-result : tie.Need-overflow_mul-result
 mul-result c = record { fits = omega (arith, product_small c.before.before.args.self c.before.before.requires) }
 
 returns : tie.Need-returns
 unfolding node_cap
 returns c = refl
 
-pub node-cap-spec : {M : Type 1} → statement M
-node-cap-spec = tie.close (tie.spec (λ c. search rules) (λ c. search rules) mul-result returns)
+pub node_cap_spec : {M : Type 1} → statement M
+node_cap_spec = tie.close (tie.spec (λ c. search rules) (λ c. search rules) mul-result returns)

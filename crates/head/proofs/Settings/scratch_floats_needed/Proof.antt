@@ -5,14 +5,14 @@ use Rattle.head.specs.Sizes.{scratch_floats_needed, scratch_small}
 use Rattle.head.proofs.Settings.scratch_floats_needed.Statement.{statement}
 use Rattle.head.proofs.Settings.scratch_floats_needed.Tie as tie
 
-mul-result : tie.Need-overflow-mul-result
+mul-result : tie.Need-overflow_mul-result
 mul-result c =
     let small = scratch_small c.before.before.args.self c.before.before.requires in
-    record { fits = rw (c.slot-width.ensures, c.before.entry-cap.ensures) (omega arith) }
+    record { fits = rw (c.slot_width.ensures, c.before.entry_cap.ensures) (omega arith) }
 
 returns : tie.Need-returns
 unfolding scratch_floats_needed
-returns c = rw (c.slot-width.ensures, c.before.entry-cap.ensures)
+returns c = rw (c.slot_width.ensures, c.before.entry_cap.ensures)
 
-pub scratch-floats-needed-spec : {M : Type 1} → statement M
-scratch-floats-needed-spec = tie.close (tie.spec (λ c κs. search rules) (λ c κs. search rules) mul-result returns)
+pub scratch_floats_needed_spec : {M : Type 1} → statement M
+scratch_floats_needed_spec = tie.close (tie.spec (λ c κs. search rules) (λ c κs. search rules) mul-result returns)

@@ -5,12 +5,12 @@ use Rattle.head.specs.Sizes.{scratch_links_needed, entries_small}
 use Rattle.head.proofs.Settings.scratch_links_needed.Statement.{statement}
 use Rattle.head.proofs.Settings.scratch_links_needed.Tie as tie
 
-mul-result : tie.Need-overflow-mul-result
-mul-result c = record { fits = omega (arith, c.entry-cap.ensures, entries_small c.before.args.self c.before.requires) }
+mul-result : tie.Need-overflow_mul-result
+mul-result c = record { fits = omega (arith, c.entry_cap.ensures, entries_small c.before.args.self c.before.requires) }
 
 returns : tie.Need-returns
 unfolding scratch_links_needed
-returns c = rw c.entry-cap.ensures
+returns c = rw c.entry_cap.ensures
 
-pub scratch-links-needed-spec : {M : Type 1} → statement M
-scratch-links-needed-spec = tie.close (tie.spec (λ c κs. search rules) mul-result returns)
+pub scratch_links_needed_spec : {M : Type 1} → statement M
+scratch_links_needed_spec = tie.close (tie.spec (λ c κs. search rules) mul-result returns)

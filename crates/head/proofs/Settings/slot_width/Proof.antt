@@ -9,5 +9,5 @@ returns : tie.Need-returns
 unfolding slot_width
 returns c = refl
 
-pub slot-width-spec : {M : Type 1} → statement M
-slot-width-spec = tie.close (tie.spec (λ c. search rules) (λ c. search rules) returns)
+pub slot_width_spec : {M : Type 1} → statement M
+slot_width_spec = tie.close (tie.spec (λ c. search rules) (λ c. search rules) returns)

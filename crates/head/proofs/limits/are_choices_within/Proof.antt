@@ -4,17 +4,17 @@ use borrow.Author.Tests.{lt-ltb, le-ltb}
 use Rattle.head.proofs.limits.are_choices_within.Statement.{statement}
 use Rattle.head.proofs.limits.are_choices_within.Tie as tie
 
-returns : tie.Need-returns
+returns : tie.Need-returns-then-h-ge-FEATURES
 unfolding choices_within
-returns c = rw (le-ltb _ _ c.if1.true)
+returns c = rw (le-ltb _ _ c.if-h-ge-FEATURES.true)
 
-returns-2 : tie.Need-returns-2
+returns-2 : tie.Need-returns-then-h-ge-DISTANCES
 unfolding choices_within
-returns-2 c = rw (lt-ltb _ _ c.before.before.if1.false, le-ltb _ _ c.if2.true)
+returns-2 c = rw (lt-ltb _ _ c.before.before.if-h-ge-FEATURES.false, le-ltb _ _ c.if-h-ge-DISTANCES.true)
 
-returns-3 : tie.Need-returns-3
+returns-3 : tie.Need-returns
 unfolding choices_within
-returns-3 c = rw (lt-ltb _ _ c.before.before.before.if1.false, lt-ltb _ _ c.before.if2.false)
+returns-3 c = rw (lt-ltb _ _ c.before.before.before.if-h-ge-FEATURES.false, lt-ltb _ _ c.before.if-h-ge-DISTANCES.false)
 
-pub are-choices-within-spec : {M : Type 1} → statement M
-are-choices-within-spec = tie.close (tie.spec returns returns-2 returns-3)
+pub are_choices_within_spec : {M : Type 1} → statement M
+are_choices_within_spec = tie.close (tie.spec returns returns-2 returns-3)

@@ -4,13 +4,13 @@ use Rattle.head.specs.Limits.{threshold_within}
 use Rattle.head.proofs.limits.is_threshold_within.Statement.{statement}
 use Rattle.head.proofs.limits.is_threshold_within.Tie as tie
 
-returns : tie.Need-returns
+returns : tie.Need-returns-then-is_finite
 unfolding threshold_within
-returns c = rw (← c.before.is_finite.ensures, c.if1.true)
+returns c = rw (← c.before.is_finite.ensures, c.if-is_finite.true)
 
-returns-2 : tie.Need-returns-2
+returns-2 : tie.Need-returns-else-is_finite
 unfolding threshold_within
-returns-2 c = rw (← c.before.is_finite.ensures, c.if1.false)
+returns-2 c = rw (← c.before.is_finite.ensures, c.if-is_finite.false)
 
-pub is-threshold-within-spec : {M : Type 1} → statement M
-is-threshold-within-spec = tie.close (tie.spec (λ c κs. search rules) returns returns-2)
+pub is_threshold_within_spec : {M : Type 1} → statement M
+is_threshold_within_spec = tie.close (tie.spec (λ c κs. search rules) returns returns-2)

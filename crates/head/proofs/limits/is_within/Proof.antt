@@ -4,13 +4,13 @@ use borrow.Author.Tests.{le-leb, lt-leb}
 use Rattle.head.proofs.limits.is_within.Statement.{statement}
 use Rattle.head.proofs.limits.is_within.Tie as tie
 
-returns : tie.Need-returns
+returns : tie.Need-returns-then-n-least
 unfolding within
-returns c = rw (lt-leb _ _ c.if1.true)
+returns c = rw (lt-leb _ _ c.if-n-least.true)
 
-returns-2 : tie.Need-returns-2
+returns-2 : tie.Need-returns-else-n-least
 unfolding within
-returns-2 c = rw (le-leb _ _ c.if1.false)
+returns-2 c = rw (le-leb _ _ c.if-n-least.false)
 
-pub is-within-spec : {M : Type 1} → statement M
-is-within-spec = tie.close (tie.spec returns returns-2)
+pub is_within_spec : {M : Type 1} → statement M
+is_within_spec = tie.close (tie.spec returns returns-2)

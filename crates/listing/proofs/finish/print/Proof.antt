@@ -7,42 +7,42 @@ use Rattle.listing.specs.Finished.{reportable, rows_stand, rows_end, first_end, 
 use Rattle.listing.proofs.finish.print.Statement.{statement}
 use Rattle.listing.proofs.finish.print.Tie as tie
 
-sub-write-report : tie.Need-overflow-sub-write-report
+sub-write-report : tie.Need-overflow_sub-run
 sub-write-report c =
     let start = c.before.before.before.before.before.before in
     let a = start.args in
-    omega (arith, grown-total (rows_stand a.run a.floats.now a.links.now c.before.enum-told2.given.1 start.requires.2))
+    omega (arith, grown-total (rows_stand a.run a.floats.now a.links.now c.before.in-Rows.is start.requires.2))
 
-write-report-requires : tie.Need-write-report-requires
+write-report-requires : tie.Need-write_report-requires
 write-report-requires c κs =
     let start = c.before.before.before.before.before.before.before in
     let a = start.args in (
-      reportable (rows_stand a.run a.floats.now a.links.now c.before.before.enum-told2.given.1 start.requires.2) start.requires.0,
+      reportable (rows_stand a.run a.floats.now a.links.now c.before.before.enum_told-in-Rows-1.given.1 start.requires.2) start.requires.0,
       start.requires.1,
     )
 
-returns : tie.Need-returns
+returns : tie.Need-returns-in-First
 returns c =
     let enum_told = c.before.before.before.before in
     let start = enum_told.before.before.before.before.before in
-    let a = start.args in wrote_is (first_end a.run a.floats.now a.links.now enum_told.enum_told.given.1 start.requires.2)
-    c.before.before.write-bad.ensures
+    let a = start.args in wrote_is (first_end a.run a.floats.now a.links.now enum_told.in-First.is start.requires.2)
+    c.before.before.write_bad.ensures
 
-returns-2 : tie.Need-returns-2
+returns-2 : tie.Need-returns-in-Rows
 returns-2 c =
     let enum-told2 = c.before.before.before.before.before in
     let start = enum-told2.before.before.before.before.before in
-    let a = start.args in wrote_is (rows_end a.run a.floats.now a.links.now enum-told2.enum-told2.given.1)
-    c.before.before.write-report.ensures
+    let a = start.args in wrote_is (rows_end a.run a.floats.now a.links.now enum-told2.in-Rows.is)
+    c.before.before.write_report.ensures
 
-returns-3 : tie.Need-returns-3
+returns-3 : tie.Need-returns-in-Bad
 returns-3 c =
     let enum-told3 = c.before.before.before.before in
     let start = enum-told3.before.before.before.before.before in
-    let a = start.args in wrote_is (bad_end a.run a.floats.now a.links.now enum-told3.enum-told3.given.1)
-    c.before.before.write-bad2.ensures
+    let a = start.args in wrote_is (bad_end a.run a.floats.now a.links.now enum-told3.in-Bad.is)
+    c.before.before.write_bad-in-Bad.ensures
 
-pub print-spec : {M : Type 1} → statement M
-print-spec =
+pub print_spec : {M : Type 1} → statement M
+print_spec =
     tie.close (tie.spec (λ c. search rules) (λ c κs. search rules) (λ c. search rules) sub-write-report write-report-requires (λ c. search rules)
     (λ c κs. search rules) (λ c. search rules) returns (λ c. search rules) returns-2 (λ c. search rules) returns-3)

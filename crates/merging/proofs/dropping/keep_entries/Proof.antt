@@ -8,42 +8,42 @@ use Rattle.merging.specs.Moving.{Moves, moves_start, moves_turn, moves_end}
 use Rattle.merging.proofs.dropping.keep_entries.Statement.{statement}
 use Rattle.merging.proofs.dropping.keep_entries.Tie as tie
 
-abbrev invariant-loop : tie.invariant-loop
+abbrev invariant-loop : tie.invariant-loop-i
 invariant-loop s n floats₀ numbers i₀ floats i =
     (length floats ≡ length floats₀) × Moves s n (alive_in numbers n.entries) (length-alive numbers n.entries) floats₀ i floats
 
-abbrev decreases-loop : tie.decreases-loop
+abbrev decreases-loop : tie.decreases-loop-i
 decreases-loop s n floats₀ numbers i₀ floats i = n.entries - i
 
-loop-holds : tie.Need-loop-init invariant-loop decreases-loop
+loop-holds : tie.Need-loop-i-init invariant-loop decreases-loop
 loop-holds c = (refl, moves_start _ _ _ _ _)
 
-keep-entry-requires : tie.Need-keep-entry-requires invariant-loop decreases-loop
+keep-entry-requires : tie.Need-keep_entry-requires invariant-loop decreases-loop
 keep-entry-requires c κs =
     let start = c.before.before.before.before.before.before in
-    ((rw c.before.before.before.loop.invariant.0 start.requires.0.0, start.requires.0.1, c.before.if1.true), start.requires.1)
+    ((rw c.before.before.before.loop-i.invariant.0 start.requires.floats.0, start.requires.floats.1, c.before.loop-i-test.true), start.requires.numbered)
 
-add-i : tie.Need-overflow-add-i invariant-loop decreases-loop
+add-i : tie.Need-overflow_add-i invariant-loop decreases-loop
 add-i c =
     let start = c.before.before.before.before.before.before.before.before.before in
-    let test = c.before.before.before.before.if1.true in
-    omega (arith, test, start.requires.0.1)
+    let test = c.before.before.before.before.loop-i-test.true in
+    omega (arith, test, start.requires.floats.1)
 
-loop-less : tie.Need-loop-smaller invariant-loop decreases-loop
-loop-less c = omega (arith, c.before.before.before.before.if1.true)
+loop-less : tie.Need-loop-i-smaller invariant-loop decreases-loop
+loop-less c = omega (arith, c.before.before.before.before.loop-i-test.true)
 
-loop-again : tie.Need-loop-preserved invariant-loop decreases-loop
+loop-again : tie.Need-loop-i-preserved invariant-loop decreases-loop
 loop-again c =
-    let test = c.before.before.before.before.if1.true in
-    let keep-entry = c.before.before.keep-entry in
-    let l = c.before.before.before.before.before.before.loop in
+    let test = c.before.before.before.before.loop-i-test.true in
+    let keep-entry = c.before.before.keep_entry in
+    let l = c.before.before.before.before.before.before.loop-i in
     (keep-entry.auto.1.1.0 ∙ l.invariant.0, moves_turn _ _ _ _ _ _ _ l.invariant.1 _ test keep-entry.ensures)
 
-same_length : tie.Need-same-length invariant-loop decreases-loop
-same_length c = c.before.before.loop.invariant.0
+same_length : tie.Need-shape_of-floats invariant-loop decreases-loop
+same_length c = c.before.before.loop-i.invariant.0
 
 returns : tie.Need-returns invariant-loop decreases-loop
-returns c = moves_end _ _ _ _ _ _ _ c.before.before.loop.invariant.1 (omega (arith, c.if1.false))
+returns c = moves_end _ _ _ _ _ _ _ c.before.before.loop-i.invariant.1 (omega (arith, c.loop-i-test.false))
 
-pub keep-entries-spec : {M : Type 1} → statement M
-keep-entries-spec = tie.close (tie.spec invariant-loop decreases-loop loop-holds keep-entry-requires add-i loop-less loop-again same_length returns)
+pub keep_entries_spec : {M : Type 1} → statement M
+keep_entries_spec = tie.close (tie.spec invariant-loop decreases-loop loop-holds keep-entry-requires add-i loop-less loop-again same_length returns)

@@ -5,12 +5,12 @@ use Rattle.merging.specs.Pruning.{plus_none, plus_some}
 use Rattle.merging.proofs.dropping.keep_number.Statement.{statement}
 use Rattle.merging.proofs.dropping.keep_number.Tie as tie
 
-returns : tie.Need-returns
-returns c = (plus_none c.before.args.new.now c.before.args.len c.before.args.word c.if1.true, omega arith)
+returns : tie.Need-returns-then-word-eq0
+returns c = (plus_none c.before.args.new.now c.before.args.len c.before.args.word c.if-word-eq0.true, omega arith)
 
-returns-2 : tie.Need-returns-2
-returns-2 c = (plus_some c.before.args.new.now c.before.args.len c.before.args.word c.if1.false c.before.requires, omega arith)
+returns-2 : tie.Need-returns
+returns-2 c = (plus_some c.before.args.new.now c.before.args.len c.before.args.word c.if-word-eq0.false c.before.requires, omega arith)
 
-pub keep-number-spec : {M : Type 1} → statement M
-keep-number-spec =
+pub keep_number_spec : {M : Type 1} → statement M
+keep_number_spec =
     tie.close (tie.spec returns (λ c. search rules) (λ c. search rules) (λ c. search rules) (λ c. search rules) (λ c. search rules) returns-2)

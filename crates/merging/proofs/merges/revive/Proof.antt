@@ -10,41 +10,41 @@ use Rattle.scratch.specs.Flags.{alive_in, alive_more, SamePairs, same_none, same
 use Rattle.merging.proofs.merges.revive.Statement.{statement}
 use Rattle.merging.proofs.merges.revive.Tie as tie
 
-abbrev invariant-loop : tie.invariant-loop
+abbrev invariant-loop : tie.invariant-loop-i
 invariant-loop numbers₀ entries i₀ numbers i =
     (i ≤ entries) × (length numbers ≡ length numbers₀) × (alive_in numbers i ≡ replicate i true) × SamePairs numbers₀ numbers
 
-abbrev decreases-loop : tie.decreases-loop
+abbrev decreases-loop : tie.decreases-loop-i
 decreases-loop numbers₀ entries i₀ numbers i = entries - i
 
-loop-holds : tie.Need-loop-init invariant-loop decreases-loop
+loop-holds : tie.Need-loop-i-init invariant-loop decreases-loop
 unfolding alive_in table
 loop-holds c = (omega arith, refl, refl, same_none c.args.numbers.now)
 
 -- the word of entry i is there
-word_in : (c : tie.In-loop invariant-loop decreases-loop) → 3 * c.before.loop.i + 2 < length c.before.loop.numbers
-word_in c = omega (arith, c.before.loop.invariant.1, c.before.before.requires, c.loop-test.true)
+word_in : (c : tie.In-loop-i invariant-loop decreases-loop) → 3 * c.before.loop-i.i + 2 < length c.before.loop-i.numbers
+word_in c = omega (arith, c.before.loop-i.invariant.1, c.before.before.requires, c.loop-i-test.true)
 
-loop-again : tie.Need-loop-preserved invariant-loop decreases-loop
+loop-again : tie.Need-loop-i-preserved invariant-loop decreases-loop
 loop-again c =
     let start = c.before.before in
-    let l = c.before.loop in (
-      omega (arith, c.loop-test.true),
+    let l = c.before.loop-i in (
+      omega (arith, c.loop-i-test.true),
       length-set l.numbers (3 * l.i + 2) 1 ∙ l.invariant.1,
       alive_more l.numbers l.i (word_in c) l.invariant.2,
       same_flag start.args.numbers.now l.numbers l.i 1 l.invariant.3,
     )
 
-same_length : tie.Need-same-length invariant-loop decreases-loop
-same_length c = c.before.loop.invariant.1
+same_length : tie.Need-shape_of-numbers invariant-loop decreases-loop
+same_length c = c.before.loop-i.invariant.1
 
 returns : tie.Need-returns invariant-loop decreases-loop
 returns c =
-    let l = c.before.loop in
-    let all : l.i ≡ c.before.before.args.entries = omega (arith, l.invariant.0, c.loop-test.false) in
+    let l = c.before.loop-i in
+    let all : l.i ≡ c.before.before.args.entries = omega (arith, l.invariant.0, c.loop-i-test.false) in
     (rw (sym all) l.invariant.2, l.invariant.3)
 
-pub revive-spec : {M : Type 1} → statement M
-revive-spec =
+pub revive_spec : {M : Type 1} → statement M
+revive_spec =
     tie.close (tie.spec invariant-loop decreases-loop loop-holds (λ c. omega (arith, word_in c)) (λ c. omega (arith, word_in c)) (λ c. omega (arith, word_in c)) word_in
     (λ c. search rules) (λ c. search rules) loop-again same_length returns)

@@ -8,25 +8,25 @@ use lib.Ieee.{in_float}
 use Rattle.outputs.proofs.spread.spread_at.Statement.{statement}
 use Rattle.outputs.proofs.spread.spread_at.Tie as tie
 
-int-to-float-result : tie.Need-int-to-float-result
+int-to-float-result : tie.Need-int_to_float-result
 unfolding in_float
 int-to-float-result c = le→leb c.before.before.before.before.args.s.dim most (let few = c.before.before.before.before.requires.0.dim_few in omega arith)
 
-mul-result : tie.Need-overflow-mul-result
+mul-result : tie.Need-offset_bounds-e-k
 mul-result c = let few = c.before.before.requires.0.dim_few in let here = c.before.before.requires.2 in omega arith
 
-element-copy-out-result-2 : tie.Need-element-copy-out-result-2
+element-copy-out-result-2 : tie.Need-bounds-e-k
 element-copy-out-result-2 c = let few = c.before.before.requires.0.dim_few in let here = c.before.before.requires.2 in omega arith
 
-returns : tie.Need-returns
+returns : tie.Need-returns-in-Spherical
 returns c =
     let start = c.before.before.before.before in
-    spherical-at _ _ start.requires.0.dim_few _ start.requires.1 _ c.before.before.enum_told.given.1 start.requires.2
+    spherical-at _ _ start.requires.0.dim_few _ start.requires.1 _ c.before.before.enum_told-1.given.1 start.requires.2
 
-returns-2 : tie.Need-returns-2
+returns-2 : tie.Need-returns-in-Diagonal
 returns-2 c =
     let start = c.before.before.before in
-    diagonal-at _ _ start.requires.0.dim_few _ start.requires.1 _ c.before.enum-told2.given.1 start.requires.2
+    diagonal-at _ _ start.requires.0.dim_few _ start.requires.1 _ c.before.in-Diagonal.is start.requires.2
 
-pub spread-at-spec : {M : Type 1} → statement M
-spread-at-spec = tie.close (tie.spec (λ c. search rules) (λ c. search rules) int-to-float-result (λ c. search rules) mul-result element-copy-out-result-2 returns returns-2)
+pub spread_at_spec : {M : Type 1} → statement M
+spread_at_spec = tie.close (tie.spec (λ c. search rules) (λ c. search rules) int-to-float-result (λ c. search rules) mul-result element-copy-out-result-2 returns returns-2)

@@ -11,41 +11,41 @@ use Rattle.pairs.specs.Groups.{leaves_turn, leaves_stop, leaves_end}
 use Rattle.pairs.proofs.cousins.all_leaves.Statement.{statement}
 use Rattle.pairs.proofs.cousins.all_leaves.Tie as tie
 
-abbrev invariant-loop : tie.invariant-loop
+abbrev invariant-loop : tie.invariant-loop-k
 invariant-loop s n links list k₀ k = (k ≤ length list) × AnyFloats s n links (λ t. all_leaves t list ≡ all_leaves t (drop k list))
 
-abbrev decreases-loop : tie.decreases-loop
+abbrev decreases-loop : tie.decreases-loop-k
 decreases-loop s n links list k₀ k = length list - k
 
-loop-holds : tie.Need-loop-init invariant-loop decreases-loop
+loop-holds : tie.Need-loop-k-init invariant-loop decreases-loop
 loop-holds c = (omega arith, λ fs. refl)
 
-cast-i : tie.Need-overflow-cast-i invariant-loop decreases-loop
-cast-i c = omega (arith, c.shared-slice-known3.given c.before.before.loop.k)
+cast-i : tie.Need-overflow_cast-i invariant-loop decreases-loop
+cast-i c = omega (arith, c.shared_slice_known-in-loop-k-1.given c.before.before.loop-k.k)
 
-is-leaf-requires : tie.Need-is-leaf-requires invariant-loop decreases-loop
+is-leaf-requires : tie.Need-is_leaf-requires invariant-loop decreases-loop
 is-leaf-requires c κs =
     let start = c.before.before.before.before.before in
-    (start.requires.0, node_listed _ _ start.requires.1 c.before.before.loop.k c.before.loop-test.true)
+    (start.requires.0, node_listed _ _ start.requires.1 c.before.before.loop-k.k c.before.loop-k-test.true)
 
-loop-again : tie.Need-loop-preserved invariant-loop decreases-loop
+loop-again : tie.Need-loop-k-preserved invariant-loop decreases-loop
 loop-again c =
-    let loop = c.before.before.before.before.loop in (
-      omega (arith, c.before.before.before.loop-test.true),
+    let loop = c.before.before.before.before.loop-k in (
+      omega (arith, c.before.before.before.loop-k-test.true),
       λ fs. loop.invariant.1 fs ∙ leaves_turn _ _ loop.k
-          c.before.before.before.loop-test.true (sym (c.before.is_leaf.ensures fs) ∙ c.if1.true),
+          c.before.before.before.loop-k-test.true (sym (c.before.is_leaf.ensures fs) ∙ c.if-is_leaf.true),
     )
 
-returns : tie.Need-returns invariant-loop decreases-loop
+returns : tie.Need-returns-else-is_leaf invariant-loop decreases-loop
 returns c =
-    let loop = c.before.before.before.before.loop in
-    λ fs. sym (loop.invariant.1 fs ∙ leaves_stop _ _ loop.k c.before.before.before.loop-test.true
-    (sym (c.before.is_leaf.ensures fs) ∙ c.if1.false))
+    let loop = c.before.before.before.before.loop-k in
+    λ fs. sym (loop.invariant.1 fs ∙ leaves_stop _ _ loop.k c.before.before.before.loop-k-test.true
+    (sym (c.before.is_leaf.ensures fs) ∙ c.if-is_leaf.false))
 
-returns-2 : tie.Need-returns-2 invariant-loop decreases-loop
-returns-2 c = λ fs. sym (c.before.loop.invariant.1 fs ∙ leaves_end _ _ c.before.loop.k (omega (arith, c.loop-test.false)))
+returns-2 : tie.Need-returns invariant-loop decreases-loop
+returns-2 c = λ fs. sym (c.before.loop-k.invariant.1 fs ∙ leaves_end _ _ c.before.loop-k.k (omega (arith, c.loop-k-test.false)))
 
-pub all-leaves-spec : {M : Type 1} → statement M
-all-leaves-spec = tie.close
+pub all_leaves_spec : {M : Type 1} → statement M
+all_leaves_spec = tie.close
     (tie.spec invariant-loop decreases-loop loop-holds (λ c. search rules) (λ c. search rules) cast-i is-leaf-requires (λ c. search rules) (λ c. search rules) loop-again
     returns returns-2)

@@ -16,53 +16,53 @@ use Rattle.pairs.specs.Groups.{beneath_turn, beneath_end}
 use Rattle.pairs.proofs.cousins.cheapest_beneath.Statement.{statement}
 use Rattle.pairs.proofs.cousins.cheapest_beneath.Tie as tie
 
-abbrev invariant-loop : tie.invariant-loop
+abbrev invariant-loop : tie.invariant-loop-k
 invariant-loop s n floats links leaves i best₀ k₀ best k =
     let t = tree_of s n floats links in
     (k ≤ length leaves) × Inside n.entries (partner_of best)
     × (partner (cost_of s t i) i (partner_of best) (beneath t (drop k leaves)) ≡ partner (cost_of s t i) i none (beneath t leaves))
 
-abbrev decreases-loop : tie.decreases-loop
+abbrev decreases-loop : tie.decreases-loop-k
 decreases-loop s n floats links leaves i best₀ k₀ best k = length leaves - k
 
-loop-holds : tie.Need-loop-init invariant-loop decreases-loop
+loop-holds : tie.Need-loop-k-init invariant-loop decreases-loop
 unfolding partner_of Inside
 loop-holds c = (omega arith, tt, refl)
 
-cast-list : tie.Need-overflow-cast-list invariant-loop decreases-loop
-cast-list c = omega (arith, c.shared-slice-known4.given c.before.before.loop.k)
+cast-list : tie.Need-overflow_cast-leaves invariant-loop decreases-loop
+cast-list c = omega (arith, c.shared_slice_known-in-loop-k-1.given c.before.before.loop-k.k)
 
-list-requires : tie.Need-list-requires invariant-loop decreases-loop
+list-requires : tie.Need-list-list-requires invariant-loop decreases-loop
 list-requires c κs =
     let start = c.before.before.before.before.before.before in
-    (start.requires.0.1, node_listed _ _ start.requires.1.nodes c.before.before.loop.k c.before.loop-test.true)
+    (start.requires.floats.1, node_listed _ _ start.requires.leaves.nodes c.before.before.loop-k.k c.before.loop-k-test.true)
 
-cheapest-requires : tie.Need-cheapest-requires invariant-loop decreases-loop
+cheapest-requires : tie.Need-cheapest-best-requires invariant-loop decreases-loop
 cheapest-requires c κs =
     let start = c.before.before.before.before.before.before.before in (
-      start.requires.0.0,
-      subst (ChildrenIn start.args.n true) (sym (c.list.ensures start.args.floats.now))
-          (start.requires.1.entries c.before.before.before.loop.k c.before.before.loop-test.true),
-      start.requires.0.2,
-      c.before.before.before.loop.invariant.1,
+      start.requires.floats.0,
+      subst (ChildrenIn start.args.n true) (sym (c.list-list.ensures start.args.floats.now))
+          (start.requires.leaves.entries c.before.before.before.loop-k.k c.before.before.loop-k-test.true),
+      start.requires.floats.2,
+      c.before.before.before.loop-k.invariant.1,
     )
 
-loop-again : tie.Need-loop-preserved invariant-loop decreases-loop
+loop-again : tie.Need-loop-k-preserved invariant-loop decreases-loop
 loop-again c =
     let start = c.before.before.before.before.before.before.before.before in
     let s = start.args.s in
     let i = start.args.i in
     let leaves = start.args.leaves.now in
     let t = tree_of s start.args.n start.args.floats.now start.args.links.now in
-    let l = c.before.before.before.before.loop in
+    let l = c.before.before.before.before.loop-k in
     let f = cost_of s t i in
     let rest = beneath t (drop (l.k + 1) leaves) in (
-      omega (arith, c.before.before.before.loop-test.true),
-      c.cheapest.ensures.1,
+      omega (arith, c.before.before.before.loop-k-test.true),
+      c.cheapest-best.ensures.inside,
       ap (λ b. partner f i b rest)
-          (c.cheapest.ensures.0 start.args.links.now ∙ ap (partner f i (partner_of l.best)) (c.before.list.ensures start.args.floats.now))
-          ∙ sym (partner-append f i (partner_of l.best) (node_at t (get_or leaves l.k 0)).list rest)
-          ∙ ap (partner f i (partner_of l.best)) (sym (beneath_turn t leaves l.k c.before.before.before.loop-test.true))
+          (c.cheapest-best.ensures.any_links start.args.links.now ∙ ap (partner f i (partner_of l.best)) (c.before.list-list.ensures start.args.floats.now))
+          ∙ sym (partner-append f i (partner_of l.best) (node_at t (get_or leaves l.k 0)).list-list rest)
+          ∙ ap (partner f i (partner_of l.best)) (sym (beneath_turn t leaves l.k c.before.before.before.loop-k-test.true))
           ∙ l.invariant.2,
     )
 
@@ -70,15 +70,15 @@ returns : tie.Need-returns invariant-loop decreases-loop
 unfolding partner
 returns c =
     let start = c.before.before.before.before.before in
-    let l = c.before.loop in
+    let l = c.before.loop-k in
     let t = tree_of start.args.s start.args.n start.args.floats.now start.args.links.now in
     let f = cost_of start.args.s t start.args.i in (
-      sym (ap (partner f start.args.i (partner_of l.best)) (beneath_end t start.args.leaves.now l.k (omega (arith, c.loop-test.false)))) ∙
+      sym (ap (partner f start.args.i (partner_of l.best)) (beneath_end t start.args.leaves.now l.k (omega (arith, c.loop-k-test.false)))) ∙
           l.invariant.2,
       l.invariant.1,
     )
 
-pub cheapest-beneath-spec : {M : Type 1} → statement M
-cheapest-beneath-spec = tie.close
+pub cheapest_beneath_spec : {M : Type 1} → statement M
+cheapest_beneath_spec = tie.close
     (tie.spec invariant-loop decreases-loop loop-holds (λ c. search rules) (λ c. search rules) cast-list list-requires cheapest-requires (λ c. search rules)
     (λ c. search rules) loop-again returns)

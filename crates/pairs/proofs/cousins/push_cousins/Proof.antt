@@ -22,68 +22,68 @@ abbrev tree : tie.Start → Tree
 tree c = tree_of c.args.s c.args.n c.args.floats.now c.args.links.now
 
 -- node i is no leaf, and the list that was read is its own
-is-inner : (c : tie.After-list) → (node_at (tree c.before.before.before.before.before.before.before)
+is-inner : (c : tie.After-list-list) → (node_at (tree c.before.before.before.before.before.before.before)
     c.before.before.before.before.before.before.before.args.i).leaf ≡ false
 is-inner c =
     let start = c.before.before.before.before.before.before.before in
-    sym (c.before.before.is_leaf.ensures start.args.floats.now) ∙ c.before.if1.false
+    sym (c.before.before.is_leaf.ensures start.args.floats.now) ∙ c.before.if-is_leaf.false
 
-own-list : (c : tie.After-list) → c.list.result.now ≡ (node_at (tree c.before.before.before.before.before.before.before)
-    c.before.before.before.before.before.before.before.args.i).list
+own-list : (c : tie.After-list-list) → c.list-list.result.now ≡ (node_at (tree c.before.before.before.before.before.before.before)
+    c.before.before.before.before.before.before.before.args.i).list-list
 own-list c =
     let start = c.before.before.before.before.before.before.before in
-    c.list.ensures start.args.floats.now
+    c.list-list.ensures start.args.floats.now
 
-children : (c : tie.After-list) → ChildrenIn c.before.before.before.before.before.before.before.args.n false c.list.result.now
+children : (c : tie.After-list-list) → ChildrenIn c.before.before.before.before.before.before.before.args.n false c.list-list.result.now
 children c =
     let start = c.before.before.before.before.before.before.before in
     subst (ChildrenIn start.args.n false) (sym (own-list c))
-    (frame_children start.args.s start.args.n start.args.floats.now start.args.links.now start.requires.0.2 start.args.i
-    start.requires.0.3 false (is-inner c))
+    (frame_children start.args.s start.args.n start.args.floats.now start.args.links.now start.requires.floats.2 start.args.i
+    start.requires.floats.3 false (is-inner c))
 
 -- all nodes of its list are leaves
-all_leaves_lem : (c : tie.After-all-leaves) → c.all_leaves_lem.result ≡ true → all_leaves (tree c.before.before.before.before.before.before.before.before)
+all_leaves_lem : (c : tie.After-all_leaves) → c.all_leaves_lem.result ≡ true → all_leaves (tree c.before.before.before.before.before.before.before.before)
     (node_at (tree c.before.before.before.before.before.before.before.before)
-    c.before.before.before.before.before.before.before.before.args.i).list ≡ true
+    c.before.before.before.before.before.before.before.before.args.i).list-list ≡ true
 all_leaves_lem c e =
     let start = c.before.before.before.before.before.before.before.before in
     ap (all_leaves (tree start)) (sym (own-list c.before)) ∙ sym (c.all_leaves_lem.ensures start.args.floats.now) ∙ e
 
-returns : tie.Need-returns
+returns : tie.Need-returns-then-is_leaf
 returns c =
     let start = c.before.before.before.before.before.before in (
       cousins-none start.args.s (tree start) start.args.i _
-          (not-inner _ _ (sym (c.before.is_leaf.ensures start.args.floats.now) ∙ c.if1.true)),
+          (not-inner _ _ (sym (c.before.is_leaf.ensures start.args.floats.now) ∙ c.if-is_leaf.true)),
       omega arith,
     )
 
-all-leaves-requires : tie.Need-all-leaves-requires
+all-leaves-requires : tie.Need-all_leaves-requires
 all-leaves-requires c κs =
     let start = c.before.before.before.before.before.before.before in
-    (start.requires.0.1, children c)
+    (start.requires.floats.1, children c)
 
-push-leaves-requires : tie.Need-push-leaves-requires
+push-leaves-requires : tie.Need-push_leaves-requires
 push-leaves-requires c κs =
     let start = c.before.before.before.before.before.before.before.before.before.before.before in
-    let all = all_leaves_lem c.before.before.before c.before.before.if2.true in
+    let all = all_leaves_lem c.before.before.before c.before.before.if-all_leaves.true in
     let own = own-list c.before.before.before.before in (
       (
-        start.requires.0.0,
-        start.requires.0.1,
-        leaves_of start.args.s start.args.n start.args.floats.now start.args.links.now _ start.requires.0.2
+        start.requires.floats.0,
+        start.requires.floats.1,
+        leaves_of start.args.s start.args.n start.args.floats.now start.args.links.now _ start.requires.floats.2
             (children c.before.before.before.before)
-            (sym (c.before.before.before.all_leaves_lem.ensures start.args.floats.now) ∙ c.before.before.if2.true),
+            (sym (c.before.before.before.all_leaves_lem.ensures start.args.floats.now) ∙ c.before.before.if-all_leaves.true),
       ),
       subst (λ k. Room (start.args.count + k) (length start.args.costs.now) (length start.args.numbers.now))
           (sym (under-inner (tree start) start.args.i (is-inner c.before.before.before.before) all) ∙ ap (λ l. length (beneath (tree start) l))
-          (sym own)) start.requires.1,
+          (sym own)) start.requires.room,
     )
 
-returns-2 : tie.Need-returns-2
+returns-2 : tie.Need-returns-then-all_leaves
 returns-2 c =
     let start = c.before.before.before.before.before.before.before.before.before.before.before.before.before.before.before.before in
-    let test2 = c.before.before.before.before.before.before.before.if2 in
-    let push-leaves = c.before.before.before.before.push-leaves in
+    let test2 = c.before.before.before.before.before.before.before.if-all_leaves in
+    let push-leaves = c.before.before.before.before.push_leaves in
     let i = start.args.i in
     let t = tree start in
     let ps = pairs_in start.args.costs.now start.args.numbers.now start.args.count in
@@ -96,17 +96,17 @@ returns-2 c =
           push-leaves.ensures.1,
     )
 
-returns-3 : tie.Need-returns-3
+returns-3 : tie.Need-returns
 returns-3 c =
     let start = c.before.before.before.before.before.before.before.before.before in (
       cousins-none start.args.s (tree start) start.args.i _
           (not-all (node_at (tree start) start.args.i).leaf _
           (ap (all_leaves (tree start)) (sym (own-list c.before.before)) ∙ sym (c.before.all_leaves_lem.ensures start.args.floats.now) ∙
-          c.if2.false)),
+          c.if-all_leaves.false)),
       omega arith,
     )
 
-pub push-cousins-spec : {M : Type 1} → statement M
-push-cousins-spec = tie.close
+pub push_cousins_spec : {M : Type 1} → statement M
+push_cousins_spec = tie.close
     (tie.spec (λ c κs. search rules) returns (λ c κs. search rules) all-leaves-requires push-leaves-requires (λ c. search rules) (λ c. search rules) returns-2
     returns-3)

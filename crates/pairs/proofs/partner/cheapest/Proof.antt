@@ -15,41 +15,41 @@ use Rattle.pairs.specs.Partners.{Inside, partner_of, inside_cheaper, partner_tur
 use Rattle.pairs.proofs.partner.cheapest.Statement.{statement}
 use Rattle.pairs.proofs.partner.cheapest.Tie as tie
 
-abbrev invariant-loop : tie.invariant-loop
+abbrev invariant-loop : tie.invariant-loop-k
 invariant-loop s n floats list i best₀ k₀ best k =
     (k ≤ length list) × Inside n.entries (partner_of best)
     × AnyLinks s n floats (λ t. partner (cost_of s t i) i (partner_of best) (drop k list) ≡ partner (cost_of s t i) i (partner_of best₀) list)
 
-abbrev decreases-loop : tie.decreases-loop
+abbrev decreases-loop : tie.decreases-loop-k
 decreases-loop s n floats list i best₀ k₀ best k = length list - k
 
-loop-holds : tie.Need-loop-init invariant-loop decreases-loop
+loop-holds : tie.Need-loop-k-init invariant-loop decreases-loop
 loop-holds c = (omega arith, c.before.before.requires.3, λ ls. refl)
 
-cast-j : tie.Need-overflow-cast-j invariant-loop decreases-loop
-cast-j c = omega (arith, c.shared-slice-known3.given c.before.before.loop.k)
+cast-j : tie.Need-overflow_cast-j invariant-loop decreases-loop
+cast-j c = omega (arith, c.shared_slice_known-in-loop-k-1.given c.before.before.loop-k.k)
 
-merge-cost-requires : tie.Need-merge-cost-requires invariant-loop decreases-loop
+merge-cost-requires : tie.Need-merge_cost-cost-requires invariant-loop decreases-loop
 unfolding ChildrenIn ChildIn
 merge-cost-requires c κs =
     let start = c.before.before.before.before.before.before in
-    (start.requires.0, start.requires.2, start.requires.1 c.before.before.before.loop.k c.before.before.loop-test.true)
+    (start.requires.0, start.requires.2, start.requires.1 c.before.before.before.loop-k.k c.before.before.loop-k-test.true)
 
-loop-again : tie.Need-loop-preserved invariant-loop decreases-loop
+loop-again : tie.Need-loop-k-preserved invariant-loop decreases-loop
 unfolding ChildrenIn ChildIn cost_of
 loop-again c =
     let start = c.before.before.before.before.before.before in
-    let l = c.before.before.before.loop in
+    let l = c.before.before.before.loop-k in
     let s = start.args.s in
     let n = start.args.n in
     let list = start.args.list.now in
     let f : List ℕ → ℕ → Float = λ ls. cost_of s (tree_of s n start.args.floats.now ls) start.args.i in
-    let more = c.before.before.loop-test.true in
+    let more = c.before.before.loop-k-test.true in
     ⊎_elim
     (λ w. (
       omega arith,
       rw (w.4, w.3.ensures) (inside_cheaper n.entries (partner_of l.best) _ _ l.invariant.1 (start.requires.1 l.k more)),
-      λ ls. partner_turn (f ls) start.args.i (partner_of l.best) list l.k (partner_of c.if1.best) more w.0.taken
+      λ ls. partner_turn (f ls) start.args.i (partner_of l.best) list l.k (partner_of c.if-j-i.best) more w.0.true
           (ap partner_of w.4 ∙ w.3.ensures
           ∙ ap (cheaper (partner_of l.best) (get_or list l.k 0)) (w.2.ensures ∙ ap ranked (w.1.ensures ls)))
           ∙ l.invariant.2 ls,
@@ -58,17 +58,17 @@ loop-again c =
       omega arith,
       rw w.1 l.invariant.1,
       λ ls. ap (λ b. partner (f ls) start.args.i (partner_of b) (drop (l.k + 1) list)) w.1
-          ∙ partner_skip (f ls) start.args.i (partner_of l.best) list l.k more w.0.left ∙ l.invariant.2 ls,
+          ∙ partner_skip (f ls) start.args.i (partner_of l.best) list l.k more w.0.false ∙ l.invariant.2 ls,
     ))
-    c.if1.branch
+    c.if-j-i.branch
 
 returns : tie.Need-returns invariant-loop decreases-loop
 returns c =
     let start = c.before.before.before.before in
-    let l = c.before.loop in
-    (λ ls. sym (partner_end _ _ (partner_of l.best) start.args.list.now l.k (omega (arith, c.loop-test.false))) ∙ l.invariant.2 ls, l.invariant.1)
+    let l = c.before.loop-k in
+    (λ ls. sym (partner_end _ _ (partner_of l.best) start.args.list.now l.k (omega (arith, c.loop-k-test.false))) ∙ l.invariant.2 ls, l.invariant.1)
 
-pub cheapest-spec : {M : Type 1} → statement M
-cheapest-spec = tie.close
+pub cheapest_spec : {M : Type 1} → statement M
+cheapest_spec = tie.close
     (tie.spec invariant-loop decreases-loop loop-holds (λ c. search rules) (λ c. search rules) cast-j merge-cost-requires (λ c κs. search rules) (λ c κs. search rules)
     (λ c. search rules) (λ c. search rules) loop-again returns)

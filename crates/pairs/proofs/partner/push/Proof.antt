@@ -6,10 +6,10 @@ use Rattle.pairs.specs.Partners.{partner_of, none-pushed, pair-pushed, partner-a
 use Rattle.pairs.proofs.partner.push.Statement.{statement}
 use Rattle.pairs.proofs.partner.push.Tie as tie
 
-returns : tie.Need-returns
+returns : tie.Need-returns-in_default
 returns c =
     let start = c.before.before.before.before in (
-      none-pushed _ _ start.args.count start.args.i (partner_of start.args.p) (partner-alone start.args.p c.enum_told.given.1),
+      none-pushed _ _ start.args.count start.args.i (partner_of start.args.p) (partner-alone start.args.p c.in_default.is),
       omega
           arith,
     )
@@ -22,11 +22,11 @@ put-requires c κs =
       (
         start.requires.1,
         named_inside 4294967296 (partner_of start.args.p) _ _
-            (partner_named start.args.p _ _ c.before.before.before.p.given.1) start.requires.2,
+            (partner_named start.args.p _ _ c.before.before.before.p-1.given.1) start.requires.2,
       ),
     )
 
-returns-2 : tie.Need-returns-2
+returns-2 : tie.Need-returns
 returns-2 c =
     let start = c.before.before.before.before.before.before.before.before.before.before.before.before in
     let told = c.before.before.before.before.before.before.before.before.p in

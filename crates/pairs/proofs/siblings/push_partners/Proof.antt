@@ -15,46 +15,46 @@ use Rattle.pairs.specs.Rooms.{entries_few}
 use Rattle.pairs.proofs.siblings.push_partners.Statement.{statement}
 use Rattle.pairs.proofs.siblings.push_partners.Tie as tie
 
-abbrev invariant-loop : tie.invariant-loop
+abbrev invariant-loop : tie.invariant-loop-k
 invariant-loop s n floats list costs₀ numbers₀ count m₀ k₀ costs numbers m k =
     (m ≤ count + k) × (k ≤ length list) × (length costs ≡ length costs₀) × (length numbers ≡ length numbers₀)
     × AnyLinks s n floats (λ t. pairs_in costs numbers m ++ partners s t list (drop k list) ≡ pairs_in costs₀ numbers₀ count ++ partners s t list list)
 
-abbrev decreases-loop : tie.decreases-loop
+abbrev decreases-loop : tie.decreases-loop-k
 decreases-loop s n floats list costs₀ numbers₀ count m₀ k₀ costs numbers m k = length list - k
 
-loop-holds : tie.Need-loop-init invariant-loop decreases-loop
+loop-holds : tie.Need-loop-k-init invariant-loop decreases-loop
 loop-holds c = (omega arith, omega arith, refl, refl, λ ls. refl)
 
-cast-i : tie.Need-overflow-cast-i invariant-loop decreases-loop
-cast-i c = omega (arith, c.shared-slice-known3.given c.before.before.loop.k)
+cast-i : tie.Need-overflow_cast-i invariant-loop decreases-loop
+cast-i c = omega (arith, c.shared_slice_known-in-loop-k-1.given c.before.before.loop-k.k)
 
-cheapest-requires : tie.Need-cheapest-requires invariant-loop decreases-loop
+cheapest-requires : tie.Need-cheapest-p-requires invariant-loop decreases-loop
 unfolding ChildrenIn ChildIn partner_of Inside
 cheapest-requires c κs =
     let start = c.before.before.before.before.before.before.before in
-    (start.requires.0, start.requires.1, start.requires.1 c.before.before.loop.k c.before.loop-test.true, tt)
+    (start.requires.0, start.requires.1, start.requires.1 c.before.before.loop-k.k c.before.loop-k-test.true, tt)
 
-push-requires : tie.Need-push-requires invariant-loop decreases-loop
+push-requires : tie.Need-push-m-requires invariant-loop decreases-loop
 push-requires c κs =
     let start = c.before.before.before.before.before.before.before.before.before.before in
-    let loop = c.before.before.before.before.before.loop in
-    let more = c.before.before.before.before.loop-test in
+    let loop = c.before.before.before.before.before.loop-k in
+    let more = c.before.before.before.before.loop-k-test in
     let inv = loop.invariant in (
       among loop.m start.requires.2 inv.2 inv.3 (omega (arith, inv.0, more.true)),
-      omega (arith, c.before.before.before.shared-slice-known3.given loop.k),
-      inside_more start.args.n.entries 4294967296 (partner_of c.before.before.cheapest.result) c.before.before.cheapest.ensures.1
+      omega (arith, c.before.before.before.shared_slice_known-in-loop-k-1.given loop.k),
+      inside_more start.args.n.entries 4294967296 (partner_of c.before.before.cheapest-p.result) c.before.before.cheapest-p.ensures.inside
           (entries_few start.args.s start.args.n _ start.requires.0),
     )
 
-loop-again : tie.Need-loop-preserved invariant-loop decreases-loop
+loop-again : tie.Need-loop-k-preserved invariant-loop decreases-loop
 unfolding partner_of
 loop-again c =
     let start = c.before.before.before.before.before.before.before.before.before.before.before.before.before.before.before in
-    let more = c.before.before.before.before.before.before.before.before.before.loop-test in
-    let cheapest = c.before.before.before.before.before.before.before.cheapest in
-    let push = c.before.before.before.before.push in
-    let l = c.before.before.before.before.before.before.before.before.before.before.loop in
+    let more = c.before.before.before.before.before.before.before.before.before.loop-k-test in
+    let cheapest = c.before.before.before.before.before.before.before.cheapest-p in
+    let push = c.before.before.before.before.push-m in
+    let l = c.before.before.before.before.before.before.before.before.before.before.loop-k in
     let s = start.args.s in
     let list = start.args.list.now in (
       omega (arith, push.ensures.1, l.invariant.0),
@@ -66,19 +66,19 @@ loop-again c =
           more.true refl (cheapest.ensures.0 ls) push.ensures.0 ∙ l.invariant.4 ls,
     )
 
-same_length : tie.Need-same-length invariant-loop decreases-loop
-same_length c = c.before.loop.invariant.2
+same_length : tie.Need-shape_of-costs invariant-loop decreases-loop
+same_length c = c.before.loop-k.invariant.2
 
-same-length-2 : tie.Need-same-length-2 invariant-loop decreases-loop
-same-length-2 c = c.before.loop.invariant.3
+same-length-2 : tie.Need-shape_of-numbers invariant-loop decreases-loop
+same-length-2 c = c.before.loop-k.invariant.3
 
 returns : tie.Need-returns invariant-loop decreases-loop
 returns c =
     let start = c.before.before.before.before.before.before in
-    let l = c.before.loop in
-    (λ ls. sym (partners_end _ _ _ start.args.list.now l.k _ (omega (arith, c.loop-test.false))) ∙ l.invariant.4 ls, omega (arith, l.invariant.0, l.invariant.1))
+    let l = c.before.loop-k in
+    (λ ls. sym (partners_end _ _ _ start.args.list.now l.k _ (omega (arith, c.loop-k-test.false))) ∙ l.invariant.4 ls, omega (arith, l.invariant.0, l.invariant.1))
 
-pub push-partners-spec : {M : Type 1} → statement M
-push-partners-spec = tie.close
+pub push_partners_spec : {M : Type 1} → statement M
+push_partners_spec = tie.close
     (tie.spec invariant-loop decreases-loop loop-holds (λ c. search rules) (λ c. search rules) cast-i cheapest-requires push-requires (λ c. search rules)
     (λ c. search rules) loop-again same_length same-length-2 returns)

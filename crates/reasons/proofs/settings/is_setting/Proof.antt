@@ -21,42 +21,42 @@ other (suc (suc (suc (suc (suc zero))))) f n₀ n₁ n₂ n₃ n₄ n₅ n₆ = 
 other (suc (suc (suc (suc (suc (suc zero)))))) f n₀ n₁ n₂ n₃ n₄ n₅ n₆ = absurd (n₆ refl)
 other (suc (suc (suc (suc (suc (suc (suc k))))))) f n₀ n₁ n₂ n₃ n₄ n₅ n₆ = refl
 
-returns : tie.Need-returns
+returns : tie.Need-returns-in-0
 unfolding setting_at
-returns c = c.is-size.ensures ∙ ap (λ k. setting_at k c.before.before.before.args.field.now) (sym c.before.match.keys1)
+returns c = c.is_size.ensures ∙ ap (λ k. setting_at k c.before.before.before.args.field.now) (sym c.before.in-0.is)
 
-returns-2 : tie.Need-returns-2
+returns-2 : tie.Need-returns-in-1
 unfolding setting_at
-returns-2 c = c.is-size2.ensures ∙ ap (λ k. setting_at k c.before.before.before.args.field.now) (sym c.before.match.keys2)
+returns-2 c = c.is_size-in-1.ensures ∙ ap (λ k. setting_at k c.before.before.before.args.field.now) (sym c.before.in-1.is)
 
-returns-3 : tie.Need-returns-3
+returns-3 : tie.Need-returns-in-2
 unfolding setting_at
-returns-3 c = c.is-size3.ensures ∙ ap (λ k. setting_at k c.before.before.before.args.field.now) (sym c.before.match.keys3)
+returns-3 c = c.is_size-in-2.ensures ∙ ap (λ k. setting_at k c.before.before.before.args.field.now) (sym c.before.in-2.is)
 
-returns-4 : tie.Need-returns-4
+returns-4 : tie.Need-returns-in-3
 unfolding setting_at
-returns-4 c = c.is-size4.ensures ∙ ap (λ k. setting_at k c.before.before.before.args.field.now) (sym c.before.match.keys4)
+returns-4 c = c.is_size-in-3.ensures ∙ ap (λ k. setting_at k c.before.before.before.args.field.now) (sym c.before.in-3.is)
 
-returns-5 : tie.Need-returns-5
+returns-5 : tie.Need-returns-in-4
 unfolding setting_at
-returns-5 c = c.is-feature.ensures ∙ ap (λ k. setting_at k c.before.before.before.args.field.now) (sym c.before.match.keys5)
+returns-5 c = c.is_feature.ensures ∙ ap (λ k. setting_at k c.before.before.before.args.field.now) (sym c.before.in-4.is)
 
-returns-6 : tie.Need-returns-6
+returns-6 : tie.Need-returns-in-5
 unfolding setting_at
-returns-6 c = c.is-distance.ensures ∙ ap (λ k. setting_at k c.before.before.before.args.field.now) (sym c.before.match.keys6)
+returns-6 c = c.is_distance.ensures ∙ ap (λ k. setting_at k c.before.before.before.args.field.now) (sym c.before.in-5.is)
 
-returns-7 : tie.Need-returns-7
+returns-7 : tie.Need-returns-in-6
 unfolding setting_at
-returns-7 c = c.is-distance2.ensures ∙ ap (λ k. setting_at k c.before.before.before.args.field.now) (sym c.before.match.keys7)
+returns-7 c = c.is_distance-in-6.ensures ∙ ap (λ k. setting_at k c.before.before.before.args.field.now) (sym c.before.in-6.is)
 
-returns-8 : tie.Need-returns-8
+returns-8 : tie.Need-returns-in_default
 returns-8 c =
     let a = c.before.before.before.args in
-    let r = c.before.match.rest in
-    c.is-float.ensures
+    let r = c.before.in_default.in_default-own.rest in
+    c.is_float.ensures
     ∙ other a.k a.field.now r.0.0.0.0.0.0.1 r.0.0.0.0.0.1 r.0.0.0.0.1 r.0.0.0.1 r.0.0.1 r.0.1 r.1
 
-pub is-setting-spec : {M : Type 1} → statement M
-is-setting-spec =
+pub is_setting_spec : {M : Type 1} → statement M
+is_setting_spec =
     tie.close (tie.spec (λ c κs. search rules) (λ c κs. search rules) (λ c κs. search rules) (λ c κs. search rules) (λ c κs. search rules)
     (λ c κs. search rules) (λ c κs. search rules) (λ c κs. search rules) returns returns-2 returns-3 returns-4 returns-5 returns-6 returns-7 returns-8)

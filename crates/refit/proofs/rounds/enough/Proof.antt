@@ -7,17 +7,17 @@ use Rattle.rules.specs.Refit.{enough}
 use Rattle.refit.proofs.rounds.enough.Statement.{statement}
 use Rattle.refit.proofs.rounds.enough.Tie as tie
 
-returns : tie.Need-returns
+returns : tie.Need-returns-then-any_hollow
 unfolding enough
 returns c =
     let a = c.before.before.before.args in
-    λ fs. ap (λ b. not b && leb 1 a.done) (sym c.if1.true ∙ c.before.any-hollow.ensures fs)
+    λ fs. ap (λ b. not b && leb 1 a.done) (sym c.if-any_hollow.true ∙ c.before.any_hollow.ensures fs)
 
-returns-2 : tie.Need-returns-2
+returns-2 : tie.Need-returns
 unfolding enough
 returns-2 c =
     let a = c.before.before.before.args in
-    λ fs. ap (λ b. not b && leb 1 a.done) (sym c.if1.false ∙ c.before.any-hollow.ensures fs)
+    λ fs. ap (λ b. not b && leb 1 a.done) (sym c.if-any_hollow.false ∙ c.before.any_hollow.ensures fs)
 
-pub enough-spec : {M : Type 1} → statement M
-enough-spec = tie.close (tie.spec (λ c κs. search rules) returns returns-2)
+pub enough_spec : {M : Type 1} → statement M
+enough_spec = tie.close (tie.spec (λ c κs. search rules) returns returns-2)

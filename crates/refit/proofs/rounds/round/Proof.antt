@@ -16,44 +16,44 @@ start c = c.before.before.before.before.before.before.before.before.before.befor
 abbrev tree : tie.Start → Tree
 tree c = tree_of c.args.s c.args.n c.args.floats.now c.args.links.now
 
-returns : tie.Need-returns
+returns : tie.Need-returns-then-reaccumulate
 returns c =
     let anew = c.before.before.before.before.before.before.before in
     let start = start anew in
     let a = start.args in
-    ((start.pre.0.0, start.pre.0.1), round_all a.s _ a.done (tree start) anew.reaccumulate.ensures c.if1.true)
+    ((start.requires.floats.0, start.requires.floats.1), round_all a.s _ a.done (tree start) anew.reaccumulate.ensures c.if-reaccumulate.true)
 
-drop-unused-requires : tie.Need-drop-unused-requires
+drop-unused-requires : tie.Need-drop_unused-requires
 drop-unused-requires c κs =
     let anew = c.before.before.before.before.before.before.before.before.before.before.before in
     let start = start anew in
     let a = start.args in
     let new = anew.reaccumulate in
     let entries = count_entries_lem a.s a.n a.floats.now a.links.now in
-    let few = start.pre.0.0.entries_in in (
+    let few = start.requires.floats.0.entries_in in (
       (
-        rw new.auto.1.1.0 start.pre.0.0,
-        start.pre.0.1,
-        rw (new.auto.1.1.1.1.0, new.auto.1.1.1.1.1.0) start.pre.0.2,
+        rw new.auto.1.1.0 start.requires.floats.0,
+        start.requires.floats.1,
+        rw (new.auto.1.1.1.1.0, new.auto.1.1.1.1.1.0) start.requires.floats.2,
       ),
       (
-        poured_leaves a.s a.n a.floats.now _ a.links.now start.pre.1.1.tree,
-        left-again a.s a.count a.rows.now (tree start) start.pre.1.1 (omega arith) new.ensures,
+        poured_leaves a.s a.n a.floats.now _ a.links.now start.requires.dim_in_bounds.1.tree,
+        left-again a.s a.count a.rows.now (tree start) start.requires.dim_in_bounds.1 (omega arith) new.ensures,
       ),
     )
 
-returns-2 : tie.Need-returns-2
+returns-2 : tie.Need-returns
 returns-2 c =
     let drop = c.before.before.before.before.before.before.before.before in
     let test = drop.before.before.before.before.before in
     let anew = test.before.before.before.before.before.before.before in
     let start = start anew in
     let a = start.args in (
-      (rw anew.reaccumulate.auto.1.1.0 at drop.drop-unused.ensures.0.0, drop.drop-unused.ensures.0.1),
-      round_some a.s _ a.done (tree start) anew.reaccumulate.ensures test.if1.false drop.drop-unused.ensures.1,
+      (rw anew.reaccumulate.auto.1.1.0 at drop.drop_unused.ensures.floats_2.0, drop.drop_unused.ensures.floats_2.1),
+      round_some a.s _ a.done (tree start) anew.reaccumulate.ensures test.if-reaccumulate.false drop.drop_unused.ensures.last_after,
     )
 
-pub round-spec : {M : Type 1} → statement M
-round-spec =
+pub round_spec : {M : Type 1} → statement M
+round_spec =
     tie.close (tie.spec (λ c κs. search rules) (λ c. search rules) (λ c. search rules) (λ c. search rules) (λ c. search rules) returns drop-unused-requires
     (λ c. search rules) (λ c. search rules) (λ c. search rules) (λ c. search rules) returns-2)

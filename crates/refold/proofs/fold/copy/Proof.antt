@@ -12,14 +12,14 @@ store-requires : tie.Need-store-requires
 store-requires c κs =
     let start = c.before.before.before.before in (
       start.requires.2,
-      subst (Shaped start.args.s.feature start.args.s.dim) (sym (c.before.summary.ensures []))
+      subst (Shaped start.args.s.feature start.args.s.dim) (sym (c.before.summary-x.ensures []))
           (child_shaped start.args.s start.requires.0.sized start.args.n start.args.floats.now [] start.args.c start.args.leaf
           start.requires.1),
     )
 
 returns : tie.Need-returns
 returns c =
-    let summary = c.before.before.before.before.summary in
+    let summary = c.before.before.before.before.summary-x in
     λ ls. folded_as (summary.ensures ls) (stored_folded (λ _. summary.result) c.before.before.store.ensures)
 
 pub copy_spec : {M : Type 1} → statement M

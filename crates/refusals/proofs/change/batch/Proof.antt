@@ -16,30 +16,30 @@ abbrev lent : tie.Start → Lent
 lent c = lending c.args.floats.now c.args.links.now c.args.scratch.now c.args.numbers.now
 
 -- where nothing before 6 applies
-abbrev start : tie.After-enum-told → tie.Start
+abbrev start : tie.In-Accepted → tie.Start
 start c = c.before.before.before.before.before.before.before.before
 
-accepts : (c : tie.After-enum-told) → answer_of (before_full (start c).args.h (lent (start c)) (start c).args.rows.now) ≡ Accepted
-accepts c = sym c.before.before.rows-asked.ensures ∙ c.enum_told.given.1
+accepts : (c : tie.In-Accepted) → answer_of (before_full (start c).args.h (lent (start c)) (start c).args.rows.now) ≡ Accepted
+accepts c = sym c.before.before.rows_asked-a.ensures ∙ c.in-Accepted.is
 
-ready : (c : tie.After-enum-told) → Ready (start c).args.h (lent (start c))
+ready : (c : tie.In-Accepted) → Ready (start c).args.h (lent (start c))
 ready c = rows_grants _ _ _ (accepts c)
 
-returns : tie.Need-returns
+returns : tie.Need-returns-in_default
 returns c =
     let start = c.before.before.before.before.before.before.before.before in
-    let asked = c.before.before.rows-asked in
-    asked.ensures ∙ answer_first _ _ (sym asked.ensures ∙ c.enum-told2.given.1)
+    let asked = c.before.before.rows_asked-a in
+    asked.ensures ∙ answer_first _ _ (sym asked.ensures ∙ c.in_default.is)
     ∙ ap answer_of (batch_parts start.args.h (lent start) start.args.rows.now)
 
-div-full : tie.Need-nonzero-div-full
+div-full : tie.Need-nonzero_div-rows
 unfolding settings_of
 div-full c = (allowed-sized _ (ready (c.before.before)).allows).dim_some
 
 full-requires : tie.Need-full-requires
 full-requires c κs = rw c.before.settings.ensures (ready_counts _ _ (ready (c.before.before)))
 
-returns-2 : tie.Need-returns-2
+returns-2 : tie.Need-returns
 unfolding settings_of lent_tree
 returns-2 c =
     let start = start (c.before.before.before) in
@@ -47,5 +47,5 @@ returns-2 c =
     ∙ rw c.before.before.settings.ensures (answer_then _ _ (accepts (c.before.before.before))
     ∙ ap answer_of (batch_parts start.args.h (lent start) start.args.rows.now))
 
-pub batch-spec : {M : Type 1} → statement M
-batch-spec = tie.close (tie.spec (λ c κs. search rules) (λ c. search rules) (λ c. search rules) returns (λ c κs. search rules) div-full full-requires returns-2)
+pub batch_spec : {M : Type 1} → statement M
+batch_spec = tie.close (tie.spec (λ c κs. search rules) (λ c. search rules) (λ c. search rules) returns (λ c κs. search rules) div-full full-requires returns-2)

@@ -15,31 +15,31 @@ abbrev lent : tie.Start → Lent
 lent c = lending c.args.floats.now c.args.links.now c.args.scratch.now c.args.numbers.now
 
 -- where 1, 2 and 3 do not apply
-abbrev start : tie.After-enum-told → tie.Start
+abbrev start : tie.In-Accepted → tie.Start
 start c = c.before.before.before.before.before.before.before.before
 
-accepts : (c : tie.After-enum-told) → answer_of (change_refusals (start c).args.h (lent (start c))) ≡ Accepted
-accepts c = sym c.before.before.change.ensures ∙ c.enum_told.given.1
+accepts : (c : tie.In-Accepted) → answer_of (change_refusals (start c).args.h (lent (start c))) ≡ Accepted
+accepts c = sym c.before.before.change-a.ensures ∙ c.in-Accepted.is
 
-ready : (c : tie.After-enum-told) → Ready (start c).args.h (lent (start c))
+ready : (c : tie.In-Accepted) → Ready (start c).args.h (lent (start c))
 ready c = change_grants _ _ (accepts c)
 
-returns : tie.Need-returns
+returns : tie.Need-returns-in_default
 unfolding row_refusals
-returns c = c.before.before.change.ensures ∙ answer_first _ _ (sym c.before.before.change.ensures ∙ c.enum-told2.given.1)
+returns c = c.before.before.change-a.ensures ∙ answer_first _ _ (sym c.before.before.change-a.ensures ∙ c.in_default.is)
 
-returns-2 : tie.Need-returns-2
+returns-2 : tie.Need-returns-then-row-s
 unfolding row_refusals row_asked row_shape_refusal
-returns-2 c = rw c.before.before.settings.ensures (unless_refused _ _ _ (ne_eqb _ _ (rw c.before.before.settings.ensures at c.if1.true)) ∙ answer_then _ _ (accepts (c.before.before.before)))
+returns-2 c = rw c.before.before.settings-s.ensures (unless_refused _ _ _ (ne_eqb _ _ (rw c.before.before.settings-s.ensures at c.if-row-s.true)) ∙ answer_then _ _ (accepts (c.before.before.before)))
 
 full-requires : tie.Need-full-requires
-full-requires c κs = rw c.before.before.settings.ensures (ready_counts _ _ (ready (c.before.before.before)))
+full-requires c κs = rw c.before.before.settings-s.ensures (ready_counts _ _ (ready (c.before.before.before)))
 
-returns-3 : tie.Need-returns-3
+returns-3 : tie.Need-returns
 unfolding row_refusals row_asked row_shape_refusal lent_tree
 returns-3 c =
     c.full.ensures c.before.before.before.before.before.before.before.before.before.before.before.before.args.links.now
-    ∙ rw c.before.before.before.settings.ensures (unless_passed _ _ _ (eq-eqb _ _ (rw c.before.before.before.settings.ensures at c.before.if1.false)) ∙ answer_then _ _ (accepts (c.before.before.before.before)))
+    ∙ rw c.before.before.before.settings-s.ensures (unless_passed _ _ _ (eq-eqb _ _ (rw c.before.before.before.settings-s.ensures at c.before.if-row-s.false)) ∙ answer_then _ _ (accepts (c.before.before.before.before)))
 
-pub row-spec : {M : Type 1} → statement M
-row-spec = tie.close (tie.spec (λ c κs. search rules) (λ c. search rules) (λ c. search rules) returns (λ c κs. search rules) returns-2 full-requires returns-3)
+pub row_spec : {M : Type 1} → statement M
+row_spec = tie.close (tie.spec (λ c κs. search rules) (λ c. search rules) (λ c. search rules) returns (λ c κs. search rules) returns-2 full-requires returns-3)

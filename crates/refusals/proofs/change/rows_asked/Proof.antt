@@ -12,23 +12,23 @@ use Rattle.refusals.proofs.change.rows_asked.Statement.{statement}
 use Rattle.refusals.proofs.change.rows_asked.Tie as tie
 
 -- where 1, 2 and 3 do not apply
-abbrev start : tie.After-enum-told → tie.Start
+abbrev start : tie.In-Accepted → tie.Start
 start c = c.before.before.before.before.before.before.before.before
 
-accepts : (c : tie.After-enum-told) → let a = (start c).args in
+accepts : (c : tie.In-Accepted) → let a = (start c).args in
     answer_of (change_refusals a.h (lending a.floats.now a.links.now a.scratch.now a.numbers.now)) ≡ Accepted
-accepts c = sym c.before.before.change.ensures ∙ c.enum_told.given.1
+accepts c = sym c.before.before.change-a.ensures ∙ c.in-Accepted.is
 
-returns : tie.Need-returns
-returns c = c.before.before.change.ensures ∙ answer_first _ _ (sym c.before.before.change.ensures ∙ c.enum-told2.given.1)
+returns : tie.Need-returns-in_default
+returns c = c.before.before.change-a.ensures ∙ answer_first _ _ (sym c.before.before.change-a.ensures ∙ c.in_default.is)
 
 shape-requires : tie.Need-shape-requires
 unfolding settings_of
 shape-requires c κs = (allowed-sized _ (change_grants _ _ (accepts c)).allows).dim_some
 
-returns-2 : tie.Need-returns-2
+returns-2 : tie.Need-returns
 unfolding settings_of rows_asked
 returns-2 c = c.shape.ensures ∙ answer_then _ _ (accepts (c.before))
 
-pub rows-asked-spec : {M : Type 1} → statement M
-rows-asked-spec = tie.close (tie.spec (λ c κs. search rules) (λ c. search rules) (λ c. search rules) returns shape-requires returns-2)
+pub rows_asked_spec : {M : Type 1} → statement M
+rows_asked_spec = tie.close (tie.spec (λ c κs. search rules) (λ c. search rules) (λ c. search rules) returns shape-requires returns-2)

@@ -29,48 +29,48 @@ abbrev rest : tie.Start → List Refusal
 rest c = let h = c.args.h in tree_refusal (checked (settings_of h) (lent_tree h c.args.floats.now c.args.links.now))
 
 -- where settings and room are granted
-abbrev start : tie.After-enum-told → tie.Start
+abbrev start : tie.In-Accepted → tie.Start
 start c = c.before.before.before.before.before.before.before
 
-accepts : (c : tie.After-enum-told) → answer_of (create_refusals (start c).args.h (start c).args.floats.now (start c).args.links.now) ≡ Accepted
-accepts c = sym c.before.before.create.ensures ∙ c.enum_told.given.1
+accepts : (c : tie.In-Accepted) → answer_of (create_refusals (start c).args.h (start c).args.floats.now (start c).args.links.now) ≡ Accepted
+accepts c = sym c.before.before.create-a.ensures ∙ c.in-Accepted.is
 
-roomy : (c : tie.After-enum-told) → Granted (start c).args.h (start c).args.floats.now (start c).args.links.now
+roomy : (c : tie.In-Accepted) → Granted (start c).args.h (start c).args.floats.now (start c).args.links.now
 roomy c = create_grants _ _ _ (accepts c)
 
-returns : tie.Need-returns
+returns : tie.Need-returns-in_default
 returns c =
-    let create = c.before.before.create in
+    let create = c.before.before.create-a in
     let start = c.before.before.before.before.before.before.before in
-    create.ensures ∙ answer_first _ _ (sym create.ensures ∙ c.enum-told2.given.1) ∙ ap answer_of (change_parts start.args.h (lent start))
+    create.ensures ∙ answer_first _ _ (sym create.ensures ∙ c.in_default.is) ∙ ap answer_of (change_parts start.args.h (lent start))
 
-scratch-floats-needed-requires : tie.Need-scratch-floats-needed-requires
-scratch-floats-needed-requires c κs = rw c.settings.ensures (roomy (c.before)).sized
+scratch-floats-needed-requires : tie.Need-scratch_floats_needed-requires
+scratch-floats-needed-requires c κs = rw c.settings-s.ensures (roomy (c.before)).sized
 
-scratch-links-needed-requires : tie.Need-scratch-links-needed-requires
-scratch-links-needed-requires c κs = rw c.before.settings.ensures (roomy (c.before.before)).sized
+scratch-links-needed-requires : tie.Need-scratch_links_needed-requires
+scratch-links-needed-requires c κs = rw c.before.settings-s.ensures (roomy (c.before.before)).sized
 
-returns-2 : tie.Need-returns-2
+returns-2 : tie.Need-returns-in_default-b
 returns-2 c =
-    let room = c.before.before.room in
+    let room = c.before.before.room-b in
     let start = c.before.before.before.before.before.before.before.before.before.before.before.before.before in
-    let e : room.result ≡ answer_of (scratch start) = rw (c.before.before.before.scratch-links-needed.ensures, c.before.before.before.before.scratch-floats-needed.ensures, c.before.before.before.before.before.settings.ensures) at
+    let e : room.result ≡ answer_of (scratch start) = rw (c.before.before.before.scratch_links_needed.ensures, c.before.before.before.before.scratch_floats_needed.ensures, c.before.before.before.before.before.settings-s.ensures) at
     room.ensures in
-    e ∙ answer_first (scratch start) (rest start) (sym e ∙ c.enum-told4.given.1) ∙ answer_then _ _ (accepts (c.before.before.before.before.before.before)) ∙ ap answer_of (change_parts start.args.h (lent start))
+    e ∙ answer_first (scratch start) (rest start) (sym e ∙ c.in_default-b.is) ∙ answer_then _ _ (accepts (c.before.before.before.before.before.before)) ∙ ap answer_of (change_parts start.args.h (lent start))
 
-tree-check-requires : tie.Need-tree-check-requires
-tree-check-requires c κs = let g = roomy (c.before.before.before.before.before.before) in rw c.before.before.before.before.before.settings.ensures (g.sized, g.floats_room, g.links_room)
+tree-check-requires : tie.Need-tree_check-requires
+tree-check-requires c κs = let g = roomy (c.before.before.before.before.before.before) in rw c.before.before.before.before.before.settings-s.ensures (g.sized, g.floats_room, g.links_room)
 
-returns-3 : tie.Need-returns-3
+returns-3 : tie.Need-returns
 unfolding lent_tree
 returns-3 c =
-    let room = c.before.before.before.room in
+    let room = c.before.before.before.room-b in
     let start = c.before.before.before.before.before.before.before.before.before.before.before.before.before.before in
-    let e : room.result ≡ answer_of (scratch start) = rw (c.before.before.before.before.scratch-links-needed.ensures, c.before.before.before.before.before.scratch-floats-needed.ensures, c.before.before.before.before.before.before.settings.ensures) at
+    let e : room.result ≡ answer_of (scratch start) = rw (c.before.before.before.before.scratch_links_needed.ensures, c.before.before.before.before.before.scratch_floats_needed.ensures, c.before.before.before.before.before.before.settings-s.ensures) at
     room.ensures in
-    let f : c.tree-check.result ≡ answer_of (rest start) = rw c.before.before.before.before.before.before.settings.ensures at c.tree-check.ensures in
-    f ∙ answer_then (scratch start) (rest start) (sym e ∙ c.before.enum-told3.given.1)
+    let f : c.tree_check.result ≡ answer_of (rest start) = rw c.before.before.before.before.before.before.settings-s.ensures at c.tree_check.ensures in
+    f ∙ answer_then (scratch start) (rest start) (sym e ∙ c.before.in-Accepted-b.is)
     ∙ answer_then _ _ (accepts (c.before.before.before.before.before.before.before)) ∙ ap answer_of (change_parts start.args.h (lent start))
 
-pub change-spec : {M : Type 1} → statement M
-change-spec = tie.close (tie.spec (λ c κs. search rules) (λ c. search rules) (λ c. search rules) returns (λ c κs. search rules) scratch-floats-needed-requires scratch-links-needed-requires (λ c κs. search rules) (λ c. search rules) (λ c. search rules) returns-2 tree-check-requires returns-3)
+pub change_spec : {M : Type 1} → statement M
+change_spec = tie.close (tie.spec (λ c κs. search rules) (λ c. search rules) (λ c. search rules) returns (λ c κs. search rules) scratch-floats-needed-requires scratch-links-needed-requires (λ c κs. search rules) (λ c. search rules) (λ c. search rules) returns-2 tree-check-requires returns-3)

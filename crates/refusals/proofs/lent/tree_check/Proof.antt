@@ -5,11 +5,11 @@ use Rattle.refusals.specs.Each.{tree_passes, tree_fails}
 use Rattle.refusals.proofs.lent.tree_check.Statement.{statement}
 use Rattle.refusals.proofs.lent.tree_check.Tie as tie
 
-returns : tie.Need-returns
-returns c = tree_passes _ (sym c.before.before.validate.ensures ∙ c.enum_told.given.1)
+returns : tie.Need-returns-in-Passes
+returns c = tree_passes _ (sym c.before.before.validate.ensures ∙ c.in-Passes.is)
 
-returns-2 : tie.Need-returns-2
-returns-2 c = tree_fails _ _ (sym c.before.before.before.validate.ensures ∙ c.before.condition.given.1)
+returns-2 : tie.Need-returns-in-Fails
+returns-2 c = tree_fails _ _ (sym c.before.before.before.validate.ensures ∙ c.before.in-Fails.is)
 
-pub tree-check-spec : {M : Type 1} → statement M
-tree-check-spec = tie.close (tie.spec (λ c κs. search rules) (λ c. search rules) (λ c. search rules) returns returns-2)
+pub tree_check_spec : {M : Type 1} → statement M
+tree_check_spec = tie.close (tie.spec (λ c κs. search rules) (λ c. search rules) (λ c. search rules) returns returns-2)

@@ -5,11 +5,11 @@ use Rattle.rules.specs.RefusalLaws.{answer_then, answer_first}
 use Rattle.refusals.proofs.look.routes.Statement.{statement}
 use Rattle.refusals.proofs.look.routes.Tie as tie
 
-returns : tie.Need-returns
-returns c = λ t e. c.before.before.empty.ensures t e ∙ answer_first _ _ (sym (c.before.before.empty.ensures t e) ∙ c.enum-told2.given.1)
+returns : tie.Need-returns-in_default
+returns c = λ t e. c.before.before.empty-a.ensures t e ∙ answer_first _ _ (sym (c.before.before.empty-a.ensures t e) ∙ c.in_default.is)
 
-returns-2 : tie.Need-returns-2
-returns-2 c = λ t e. c.output.ensures ∙ answer_then _ _ (sym (c.before.before.before.empty.ensures t e) ∙ c.before.enum_told.given.1)
+returns-2 : tie.Need-returns
+returns-2 c = λ t e. c.output.ensures ∙ answer_then _ _ (sym (c.before.before.before.empty-a.ensures t e) ∙ c.before.in-Accepted.is)
 
-pub routes-spec : {M : Type 1} → statement M
-routes-spec = tie.close (tie.spec (λ c κs. search rules) (λ c. search rules) (λ c. search rules) returns (λ c κs. search rules) returns-2)
+pub routes_spec : {M : Type 1} → statement M
+routes_spec = tie.close (tie.spec (λ c κs. search rules) (λ c. search rules) (λ c. search rules) returns (λ c κs. search rules) returns-2)

@@ -14,25 +14,25 @@ use Rattle.refusals.proofs.look.spread.Statement.{statement}
 use Rattle.refusals.proofs.look.spread.Tie as tie
 
 -- where 1, 2 and 3 do not apply
-abbrev start : tie.After-enum-told → tie.Start
+abbrev start : tie.In-Accepted → tie.Start
 start c = c.before.before.before.before.before.before
 
-accepts : (c : tie.After-enum-told) → answer_of (tree_refusals (start c).args.h (start c).args.floats.now (start c).args.links.now) ≡ Accepted
-accepts c = sym c.before.before.look.ensures ∙ c.enum_told.given.1
+accepts : (c : tie.In-Accepted) → answer_of (tree_refusals (start c).args.h (start c).args.floats.now (start c).args.links.now) ≡ Accepted
+accepts c = sym c.before.before.look-a.ensures ∙ c.in-Accepted.is
 
-returns : tie.Need-returns
+returns : tie.Need-returns-in_default
 unfolding spread_refusals
-returns c = c.before.before.look.ensures ∙ answer_first _ _ (sym c.before.before.look.ensures ∙ c.enum-told2.given.1)
+returns c = c.before.before.look-a.ensures ∙ answer_first _ _ (sym c.before.before.look-a.ensures ∙ c.in_default.is)
 
-mul-output : tie.Need-overflow-mul-output
+mul-output : tie.Need-overflow_mul-h
 mul-output c = let small = spread_small _ _ _ (accepts (c.before)) in omega arith
 
-returns-2 : tie.Need-returns-2
+returns-2 : tie.Need-returns
 unfolding settings_of lent_tree spread_refusals spread_asked
 returns-2 c =
     let a = c.before.before.before.before.before.before.before.before.args in
     let many = count_entries_lem (settings_of a.h) a.h.counters a.floats.now a.links.now in
     c.output.ensures ∙ ap (λ k. answer_of (output_refusal (k * a.h.dim) (length a.out.now))) (sym many) ∙ answer_then _ _ (accepts (c.before.before))
 
-pub spread-spec : {M : Type 1} → statement M
-spread-spec = tie.close (tie.spec (λ c κs. search rules) (λ c. search rules) (λ c. search rules) returns mul-output (λ c κs. search rules) returns-2)
+pub spread_spec : {M : Type 1} → statement M
+spread_spec = tie.close (tie.spec (λ c κs. search rules) (λ c. search rules) (λ c. search rules) returns mul-output (λ c κs. search rules) returns-2)

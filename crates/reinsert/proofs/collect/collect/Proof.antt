@@ -18,165 +18,166 @@ use Rattle.reinsert.specs.Collect.{Collecting, collect_start, collect_none, coll
 use Rattle.reinsert.specs.Collect.{leaf_room, collect_leaf, inner_room, collect_inner}
 use Rattle.reinsert.proofs.collect.collect.Statement.{statement}
 use Rattle.reinsert.proofs.collect.collect.Tie as tie
+use Rattle.reinsert.proofs.collect.collect.Lts.{else-is_leaf, then-is_leaf}
 
-abbrev invariant-loop : tie.invariant-loop
+abbrev invariant-loop : tie.invariant-loop-left
 invariant-loop s n floats links scratch₀ stack₀ high₀ count₀ left₀ scratch stack high count left =
     (length scratch ≡ length scratch₀) × (length stack ≡ length stack₀)
     × Collecting s (tree_of s n floats links) left (slots_in s scratch count) (waiting stack high)
 
-abbrev decreases-loop : tie.decreases-loop
+abbrev decreases-loop : tie.decreases-loop-left
 decreases-loop s n floats links scratch₀ stack₀ high₀ count₀ left₀ scratch stack high count left = left
 
 -- ---- the places: the start, and the turn, from the kind of a node read
 
-abbrev start : tie.At-loop invariant-loop decreases-loop → tie.Start invariant-loop decreases-loop
+abbrev start : tie.At-loop-left invariant-loop decreases-loop → tie.Start invariant-loop decreases-loop
 start c = c.before.before.before.before.before.before
 
-abbrev turn : tie.After-is-leaf invariant-loop decreases-loop → tie.At-loop invariant-loop decreases-loop
+abbrev turn : tie.After-is_leaf invariant-loop decreases-loop → tie.At-loop-left invariant-loop decreases-loop
 turn c = c.before.before.before.before.before
 
 abbrev tree : tie.Start invariant-loop decreases-loop → Tree
 tree c = tree_of c.args.s c.args.n c.args.floats.now c.args.links.now
 
-abbrev done : tie.At-loop invariant-loop decreases-loop → List Summary
-done c = slots_in (start c).args.s c.loop.scratch c.loop.count
+abbrev done : tie.At-loop-left invariant-loop decreases-loop → List Summary
+done c = slots_in (start c).args.s c.loop-left.scratch c.loop-left.count
 
 -- a node waits on top, and is there
-abbrev top : tie.At-loop invariant-loop decreases-loop → ℕ
-top c = get_or c.loop.stack (c.loop.high - 1) 0
+abbrev top : tie.At-loop-left invariant-loop decreases-loop → ℕ
+top c = get_or c.loop-left.stack (c.loop-left.high - 1) 0
 
-abbrev others : tie.At-loop invariant-loop decreases-loop → List ℕ
-others c = waiting c.loop.stack (c.loop.high - 1)
+abbrev others : tie.At-loop-left invariant-loop decreases-loop → List ℕ
+others c = waiting c.loop-left.stack (c.loop-left.high - 1)
 
-long : (c : tie.At-loop invariant-loop decreases-loop) → length c.loop.stack ≡ length (start c).args.stack.now
-long c = c.loop.invariant.1 ∙ simp length-set
+long : (c : tie.At-loop-left invariant-loop decreases-loop) → length c.loop-left.stack ≡ length (start c).args.stack.now
+long c = c.loop-left.invariant.1 ∙ simp length-set
 
-few : (c : tie.At-loop invariant-loop decreases-loop) → c.loop.high ≤ entry_cap (start c).args.s
+few : (c : tie.At-loop-left invariant-loop decreases-loop) → c.loop-left.high ≤ entry_cap (start c).args.s
 few c =
     let a = (start c).args in
-    let w = waiting_few a.s (tree (start c)) c.loop.left (done c) (waiting c.loop.stack c.loop.high) c.loop.invariant.2 in
-    omega (arith, w, length-waiting c.loop.stack c.loop.high)
+    let w = waiting_few a.s (tree (start c)) c.loop-left.left (done c) (waiting c.loop-left.stack c.loop-left.high) c.loop-left.invariant.2 in
+    omega (arith, w, length-waiting c.loop-left.stack c.loop-left.high)
 
-module _ (c : tie.At-loop invariant-loop decreases-loop) (h : 0 < c.loop.high) where
-  opened : Collecting (start c).args.s (tree (start c)) c.loop.left (done c) (top c ∷ others c)
-  opened = subst (Collecting (start c).args.s (tree (start c)) c.loop.left (done c)) (waiting_top c.loop.stack c.loop.high h) c.loop.invariant.2
+module _ (c : tie.At-loop-left invariant-loop decreases-loop) (h : 0 < c.loop-left.high) where
+  opened : Collecting (start c).args.s (tree (start c)) c.loop-left.left (done c) (top c ∷ others c)
+  opened = subst (Collecting (start c).args.s (tree (start c)) c.loop-left.left (done c)) (waiting_top c.loop-left.stack c.loop-left.high h) c.loop-left.invariant.2
 
   here : top c < (start c).args.n.nodes
   here =
       let a = (start c).args in
       rw (count_nodes_lem a.s a.n a.floats.now a.links.now) at
-      (top_there a.s (tree (start c)) c.loop.left (done c) (top c) (others c) opened)
+      (top_there a.s (tree (start c)) c.loop-left.left (done c) (top c) (others c) opened)
 
 -- one node waits at least, and one may be visited
-some : (c : tie.After-is-leaf invariant-loop decreases-loop) → 0 < (turn c).loop.high
-some c = omega (arith, c.before.before.before.if1.false)
+some : (c : tie.After-is_leaf invariant-loop decreases-loop) → 0 < (turn c).loop-left.high
+some c = omega (arith, c.before.before.before.if-high-eq0.false)
 
-more : (c : tie.After-is-leaf invariant-loop decreases-loop) → 0 < (turn c).loop.left
-more c = c.before.before.before.before.loop-test.true
+more : (c : tie.After-is_leaf invariant-loop decreases-loop) → 0 < (turn c).loop-left.left
+more c = c.before.before.before.before.loop-left-test.true
 
 -- the list and the kind that were read are the node's
-list : (c : tie.After-is-leaf invariant-loop decreases-loop) → c.before.list.result.now ≡ (node_at (tree (start (turn c))) (top (turn c))).list
-list c = c.before.list.ensures (start (turn c)).args.floats.now
+list : (c : tie.After-is_leaf invariant-loop decreases-loop) → c.before.list-list.result.now ≡ (node_at (tree (start (turn c))) (top (turn c))).list-list
+list c = c.before.list-list.ensures (start (turn c)).args.floats.now
 
-kind : (c : tie.After-is-leaf invariant-loop decreases-loop) {b : Bool} → c.is_leaf.result ≡ b → (node_at (tree (start (turn c))) (top (turn c))).leaf ≡ b
+kind : (c : tie.After-is_leaf invariant-loop decreases-loop) {b : Bool} → c.is_leaf.result ≡ b → (node_at (tree (start (turn c))) (top (turn c))).leaf ≡ b
 kind c e = sym (c.is_leaf.ensures (start (turn c)).args.floats.now) ∙ e
 
-cast-stack : tie.Need-overflow-cast-stack invariant-loop decreases-loop
+cast-stack : tie.Need-overflow_cast-stack invariant-loop decreases-loop
 cast-stack c =
     let start = c.before.before.before.before.before in
     let a = start.args in
-    let root = root_in a.s a.n a.floats.now a.links.now start.requires.0.2.framed in
-    omega (arith, root, start.requires.0.0.nodes_in, caps_small a.s a.n _ start.requires.0.0)
+    let root = root_in a.s a.n a.floats.now a.links.now start.requires.floats.2.framed in
+    omega (arith, root, start.requires.floats.0.nodes_in, caps_small a.s a.n _ start.requires.floats.0)
 
-slice-write-stack : tie.Need-slice-write-stack invariant-loop decreases-loop
+slice-write-stack : tie.Need-bounds-stack-0 invariant-loop decreases-loop
 unfolding entry_cap
 slice-write-stack c =
     let start = c.before.before.before.before.before in
-    omega (arith, start.requires.1.1)
+    omega (arith, start.requires.s_in_bounds.1)
 
-loop-holds : tie.Need-loop-init invariant-loop decreases-loop
+loop-holds : tie.Need-loop-left-init invariant-loop decreases-loop
 unfolding entry_cap tree_of
 loop-holds c =
     let start = c.before.before.before.before.before in
     let a = start.args in (
       refl,
       refl,
-      collect_start a.s _ start.requires.0.2 (sym (count_nodes_lem a.s a.n _ _)) (no_slots a.s a.scratch.now)
-          (waiting-put a.stack.now 0 _ (omega (arith, start.requires.1.1)) ∙ ap (λ ns. a.n.root ∷ ns) (none_wait a.stack.now 0 refl)),
+      collect_start a.s _ start.requires.floats.2 (sym (count_nodes_lem a.s a.n _ _)) (no_slots a.s a.scratch.now)
+          (waiting-put a.stack.now 0 _ (omega (arith, start.requires.s_in_bounds.1)) ∙ ap (λ ns. a.n.root ∷ ns) (none_wait a.stack.now 0 refl)),
     )
 
-same_length : tie.Need-same-length invariant-loop decreases-loop
-same_length c = c.before.before.loop.invariant.0
+same_length : tie.Need-shape_of-scratch-then-high-eq0 invariant-loop decreases-loop
+same_length c = c.before.before.loop-left.invariant.0
 
-same-length-2 : tie.Need-same-length-2 invariant-loop decreases-loop
+same-length-2 : tie.Need-shape_of-stack-then-high-eq0 invariant-loop decreases-loop
 same-length-2 c = long c.before.before
 
-returns : tie.Need-returns invariant-loop decreases-loop
+returns : tie.Need-returns-then-high-eq0 invariant-loop decreases-loop
 returns c =
     let at = c.before.before in
-    collect_none (start at).args.s _ at.loop.left _ (none_wait at.loop.stack at.loop.high (omega (arith, c.if1.true))) at.loop.invariant.2
+    collect_none (start at).args.s _ at.loop-left.left _ (none_wait at.loop-left.stack at.loop-left.high (omega (arith, c.if-high-eq0.true))) at.loop-left.invariant.2
 
-sub-high : tie.Need-overflow-sub-high invariant-loop decreases-loop
-sub-high c = omega (arith, c.if1.false)
+sub-high : tie.Need-overflow_sub-high invariant-loop decreases-loop
+sub-high c = omega (arith, c.if-high-eq0.false)
 
-mul-i : tie.Need-overflow-mul-i invariant-loop decreases-loop
+mul-i : tie.Need-offset_bounds-stack-high invariant-loop decreases-loop
 mul-i c =
     let start = start c.before.before in
-    omega (arith, few c.before.before, c.if1.false, caps_small start.args.s start.args.n _ start.pre.0.0)
+    omega (arith, few c.before.before, c.if-high-eq0.false, caps_small start.args.s start.args.n _ start.requires.floats.0)
 
-slice-read-i : tie.Need-slice-read-i invariant-loop decreases-loop
+slice-read-i : tie.Need-bounds-stack-high invariant-loop decreases-loop
 slice-read-i c =
     let at = c.before.before.before in
-    omega (arith, few at, c.before.if1.false, (start at).requires.1.1, long at)
+    omega (arith, few at, c.before.if-high-eq0.false, (start at).requires.s_in_bounds.1, long at)
 
-cast-i : tie.Need-overflow-cast-i invariant-loop decreases-loop
-cast-i c = omega (arith, c.slice-known3.given (c.before.before.before.loop.high - 1))
+cast-i : tie.Need-overflow_cast-i invariant-loop decreases-loop
+cast-i c = omega (arith, c.slice_known-in-loop-left-1.given (c.before.before.before.loop-left.high - 1))
 
-list-requires : tie.Need-list-requires invariant-loop decreases-loop
+list-requires : tie.Need-list-list-requires invariant-loop decreases-loop
 list-requires c κs =
     let at = c.before.before.before in
-    ((start at).requires.0.1, here at (omega (arith, c.before.if1.false)))
+    ((start at).requires.floats.1, here at (omega (arith, c.before.if-high-eq0.false)))
 
-is-leaf-requires : tie.Need-is-leaf-requires invariant-loop decreases-loop
+is-leaf-requires : tie.Need-is_leaf-requires invariant-loop decreases-loop
 is-leaf-requires c κs =
     let at = c.before.before.before.before in
-    ((start at).requires.0.1, here at (omega (arith, c.before.before.if1.false)))
+    ((start at).requires.floats.1, here at (omega (arith, c.before.before.if-high-eq0.false)))
 
-copy-entries-requires : tie.Need-copy-entries-requires invariant-loop decreases-loop
+copy-entries-requires : tie.Need-copy_entries-count-requires invariant-loop decreases-loop
 copy-entries-requires c κs =
     let read = c.before.before in
     let at = turn read in
     let start = start at in
     let a = start.args in
-    let leaf = kind read c.before.if2.true in
-    let room = leaf_room a.s (tree start) at.loop.left (done at) (top at) (others at) (opened at (some read)) (more read) leaf in (
+    let leaf = kind read c.before.if-is_leaf.true in
+    let room = leaf_room a.s (tree start) at.loop-left.left (done at) (top at) (others at) (opened at (some read)) (more read) leaf in (
       (
-        start.pre.0.0,
+        start.requires.floats.0,
         subst (ChildrenIn a.n true) (sym (list read))
-            (frame_children a.s a.n a.floats.now a.links.now start.pre.0.2.framed (top at) (here at (some read)) true leaf),
+            (frame_children a.s a.n a.floats.now a.links.now start.requires.floats.2.framed (top at) (here at (some read)) true leaf),
       ),
       (
-        omega (arith, room, length_slots a.s at.loop.scratch at.loop.count, ap length (list read)),
-        rw at.loop.inv.0 start.pre.1.0,
+        omega (arith, room, length_slots a.s at.loop-left.scratch at.loop-left.count, ap length (list read)),
+        rw at.loop-left.inv.0 start.requires.s_in_bounds.0,
       ),
     )
 
-stack-list-requires : tie.Need-stack-list-requires invariant-loop decreases-loop
+stack-list-requires : tie.Need-stack_list-high-requires invariant-loop decreases-loop
 stack-list-requires c κs =
     let read = c.before.before in
     let at = turn read in
     let start = start at in
-    let inner = kind read c.before.if2.false in
-    let room = inner_room start.args.s (tree start) at.loop.left (done at) (top at) (others at) (opened at (some read)) (more read) inner in
-    omega (arith, room, length-waiting at.loop.stack (at.loop.high - 1), ap length (list read), start.pre.1.1, long at)
+    let inner = kind read c.before.if-is_leaf.false in
+    let room = inner_room start.args.s (tree start) at.loop-left.left (done at) (top at) (others at) (opened at (some read)) (more read) inner in
+    omega (arith, room, length-waiting at.loop-left.stack (at.loop-left.high - 1), ap length (list read), start.requires.s_in_bounds.1, long at)
 
-sub-left : tie.Need-overflow-sub-left invariant-loop decreases-loop
+sub-left : tie.Need-overflow_sub-left invariant-loop decreases-loop
 sub-left c = omega (arith, more c.before)
 
-loop-less : tie.Need-loop-smaller invariant-loop decreases-loop
+loop-less : tie.Need-loop-left-smaller invariant-loop decreases-loop
 loop-less c = omega (arith, more c.before)
 
-loop-again : tie.Need-loop-preserved invariant-loop decreases-loop
+loop-again : tie.Need-loop-left-preserved invariant-loop decreases-loop
 loop-again c =
     let read = c.before in
     let at = turn read in
@@ -184,32 +185,32 @@ loop-again c =
     let a = start.args in
     let t = tree start in
     -- in either branch w .2 is the call, and w.5 to w.8 say what scratch, stack, high and count have become
-    elim c.if2.branch [
-      | inl w ↦ (
-        ap length w.5 ∙ w.2.kept.1.1.1.1.0 ∙ at.loop.inv.0,
-        ap length w.6 ∙ at.loop.inv.1,
-        collect_leaf a.s t at.loop.left (done at) (top at) (others at) (opened at (some read)) (more read) (kind read w.0.taken)
+    elim c.if-is_leaf.branch [
+      | then-is_leaf w ↦ (
+        ap length w.5 ∙ w.2.kept.1.1.1.1.0 ∙ at.loop-left.inv.0,
+        ap length w.6 ∙ at.loop-left.inv.1,
+        collect_leaf a.s t at.loop-left.left (done at) (top at) (others at) (opened at (some read)) (more read) (kind read w.if-is_leaf.true)
             (ap₂ (slots_in a.s) w.5 w.8 ∙ w.2.ensures.1 a.links.now ∙ ap (λ l. done at ++ map (entry_at t) l) (list read))
             (ap₂ waiting w.6 w.7),
       )
-      | inr w ↦ (
-        ap length w.5 ∙ at.loop.inv.0,
-        ap length w.6 ∙ w.2.kept.1.0 ∙ at.loop.inv.1,
-        collect_inner a.s t at.loop.left (done at) (top at) (others at) (opened at (some read)) (more read) (kind read w.0.left)
+      | else-is_leaf w ↦ (
+        ap length w.5 ∙ at.loop-left.inv.0,
+        ap length w.6 ∙ w.2.kept.1.0 ∙ at.loop-left.inv.1,
+        collect_inner a.s t at.loop-left.left (done at) (top at) (others at) (opened at (some read)) (more read) (kind read w.if-is_leaf.false)
             (ap₂ (slots_in a.s) w.5 w.8) (ap₂ waiting w.6 w.7 ∙ w.2.ensures ∙ ap (λ l. l ++ others at) (list read)),
       )
     ]
 
-same-length-3 : tie.Need-same-length-3 invariant-loop decreases-loop
-same-length-3 c = c.before.loop.invariant.0
+same-length-3 : tie.Need-shape_of-scratch invariant-loop decreases-loop
+same-length-3 c = c.before.loop-left.invariant.0
 
-same-length-4 : tie.Need-same-length-4 invariant-loop decreases-loop
+same-length-4 : tie.Need-shape_of-stack invariant-loop decreases-loop
 same-length-4 c = long c.before
 
-returns-2 : tie.Need-returns-2 invariant-loop decreases-loop
-returns-2 c = let at = c.before in collect_end (start at).args.s _ at.loop.left _ (omega arith) at.loop.invariant.2
+returns-2 : tie.Need-returns invariant-loop decreases-loop
+returns-2 c = let at = c.before in collect_end (start at).args.s _ at.loop-left.left _ (omega arith) at.loop-left.invariant.2
 
-pub collect-spec : {M : Type 1} → statement M
-collect-spec =
+pub collect_spec : {M : Type 1} → statement M
+collect_spec =
     tie.close (tie.spec invariant-loop decreases-loop cast-stack slice-write-stack loop-holds same_length same-length-2 returns sub-high mul-i slice-read-i cast-i
     list-requires is-leaf-requires copy-entries-requires stack-list-requires sub-left loop-less loop-again same-length-3 same-length-4 returns-2)

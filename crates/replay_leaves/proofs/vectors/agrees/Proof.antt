@@ -5,12 +5,12 @@ use Rattle.head.specs.Sizes.{slot_width}
 use Rattle.replay_leaves.proofs.vectors.agrees.Statement.{statement}
 use Rattle.replay_leaves.proofs.vectors.agrees.Tie as tie
 
-slice-read-same : tie.Need-slice-read-same
+slice-read-same : tie.Need-bounds-floats-w
 unfolding slot_width
-slice-read-same c = omega (arith, c.before.before.before.before.slot-width.ensures, c.before.before.before.before.before.before.requires.2)
+slice-read-same c = omega (arith, c.before.before.before.before.slot_width-w.ensures, c.before.before.before.before.before.before.requires.2)
 
-pub agrees-spec : {M : Type 1} → statement M
-agrees-spec =
+pub agrees_spec : {M : Type 1} → statement M
+agrees_spec =
     tie.close
     (tie.spec (λ c κs. search rules) (λ c κs. search rules) (λ c. search rules) (λ c. search rules) (λ c κs. search rules) (λ c. search rules)
     (λ c. search rules) (λ c κs. search rules) (λ c. search rules) (λ c. search rules) slice-read-same (λ c κs. search rules) (λ c. search rules)

@@ -4,10 +4,10 @@ use borrow.Author.Rules.{rules}
 use Rattle.replay_leaves.proofs.vectors.alike.Statement.{statement}
 use Rattle.replay_leaves.proofs.vectors.alike.Tie as tie
 
-abbrev invariant-loop : tie.invariant-loop
+abbrev invariant-loop : tie.invariant-loop-i
 invariant-loop floats p q w i₀ i = i ≤ w
 
-abbrev decreases-loop : tie.decreases-loop
+abbrev decreases-loop : tie.decreases-loop-i
 decreases-loop floats p q w i₀ i = w - i
 
 pub alike_spec : {M : Type 1} → statement M

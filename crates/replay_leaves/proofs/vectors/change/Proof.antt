@@ -7,10 +7,10 @@ use Rattle.arena.specs.Trees.{entry_shaped}
 use Rattle.replay_leaves.proofs.vectors.change.Statement.{statement}
 use Rattle.replay_leaves.proofs.vectors.change.Tie as tie
 
-shaped : (c : tie.After-summary) → Shaped c.before.before.before.args.s.feature c.before.before.before.args.s.dim c.summary.result
+shaped : (c : tie.After-summary-b) → Shaped c.before.before.before.args.s.feature c.before.before.before.args.s.dim c.summary-b.result
 shaped c =
     let start = c.before.before.before in
-    rw (c.summary.ensures [])
+    rw (c.summary-b.ensures [])
     (entry_shaped start.args.s start.requires.0.sized start.args.n start.args.floats.now [] 1 (omega (arith, start.requires.1)))
 
 push-requires : tie.Need-push-requires
@@ -24,8 +24,8 @@ merge-requires c κs =
     let (floats, two) = c.before.before.before.before.before.requires in
     (floats, omega (arith, two), shaped c.before.before)
 
-pub change-spec : {M : Type 1} → statement M
-change-spec =
+pub change_spec : {M : Type 1} → statement M
+change_spec =
     tie.close
     (tie.spec (λ c κs. search rules) (λ c. search rules) push-requires (λ c. search rules) (λ c. search rules) merge-requires (λ c. search rules)
     (λ c. search rules))

@@ -6,10 +6,10 @@ use lib.ListN.{length}
 use Rattle.replay_leaves.proofs.vectors.fill.Statement.{statement}
 use Rattle.replay_leaves.proofs.vectors.fill.Tie as tie
 
-abbrev invariant-loop : tie.invariant-loop
+abbrev invariant-loop : tie.invariant-loop-i
 invariant-loop p₀ n i₀ p i = (i ≤ n) × (length p ≡ length p₀)
 
-abbrev decreases-loop : tie.decreases-loop
+abbrev decreases-loop : tie.decreases-loop-i
 decreases-loop p₀ n i₀ p i = n - i
 
 pub fill_spec : {M : Type 1} → statement M

@@ -11,8 +11,8 @@ use Rattle.head.specs.Heads.{new_counters}
 use Rattle.head.specs.Counting.{count_entries}
 use Rattle.head.specs.Sizes.{node_cap, entry_cap, slot_width, floats_needed, nodes_some}
 use Rattle.arena.specs.Trees.{Floats}
-use Rattle.replay_leaves.proofs.vectors.taken.Statement.{statement}
-use Rattle.replay_leaves.proofs.vectors.taken.Tie as tie
+use Rattle.replay_leaves.proofs.vectors.true.Statement.{statement}
+use Rattle.replay_leaves.proofs.vectors.true.Tie as tie
 
 -- the floats of a tree with two entries, and of one slot more
 room : (s : Settings) (n : Counters) (l : ℕ) → Sized s → s.max_leaves ≡ 1 → n ≡ count_entries 2 (new_counters f0) → l ≡ 102
@@ -26,7 +26,7 @@ room s n l z e c k =
 read-requires : tie.Need-read-requires
 unfolding slot_width
 read-requires c κs =
-    let w = c.before.slot-width.ensures in
+    let w = c.before.slot_width.ensures in
     let d = c.before.before.before.before.requires.0.dim_few in
     (omega arith, omega arith)
 
@@ -34,12 +34,12 @@ agrees-requires : tie.Need-agrees-requires
 agrees-requires c κs =
     let start = c.before.before.before.before.before.before.before.before in
     let new = c.before.before.before.before.before.before.before.new in
-    let n = c.before.before.before.before.before.before.with_entries in
+    let n = c.before.before.before.before.before.before.with_entries-n in
     room start.args.s n.result _ start.requires.0 start.requires.1 (n.ensures ∙ ap (count_entries 2) new.ensures)
     c.before.before.before.read.auto.1.1.0
 
-pub taken-spec : {M : Type 1} → statement M
-taken-spec =
+pub taken_spec : {M : Type 1} → statement M
+taken_spec =
     tie.close
     (tie.spec (λ c κs. search rules) (λ c κs. search rules) (λ c κs. search rules) (λ c. search rules) read-requires (λ c. search rules)
     (λ c. search rules) agrees-requires (λ c. search rules) (λ c. search rules))

@@ -11,14 +11,14 @@ taken-requires : tie.Need-taken-requires
 unfolding new_head settings_of
 taken-requires c κs =
     let new = c.before.before.before.new in
-    let is-allowed = c.before.before.is-allowed in
-    let if3 = c.before.if3 in (
+    let is-allowed = c.before.before.is_allowed in
+    let if3 = c.before.if-not-is_allowed in (
       rw c.settings.ensures (allowed-sized new.result (sym is-allowed.ensures ∙ not-false _ if3.false)),
       rw (c.settings.ensures, new.ensures) (refl {a = 1}),
     )
 
-pub tried-spec : {M : Type 1} → statement M
-tried-spec =
+pub tried_spec : {M : Type 1} → statement M
+tried_spec =
     tie.close
     (tie.spec (λ c. search rules) (λ c. search rules) (λ c. search rules) (λ c. search rules) (λ c κs. search rules) (λ c κs. search rules)
     (λ c. search rules) (λ c κs. search rules) taken-requires (λ c. search rules))

@@ -9,10 +9,10 @@ use Rattle.replay_trees.proofs.vectors.begun.Tie as tie
 checked-requires : tie.Need-checked-requires
 checked-requires c κs =
     let new = c.before.before.before.before.new in
-    let is-allowed = c.before.before.before.is-allowed in
-    let if1 = c.before.before.if1 in
+    let is-allowed = c.before.before.before.is_allowed in
+    let if1 = c.before.before.if-not-is_allowed in
     rw c.settings.ensures (allowed-sized new.result (sym is-allowed.ensures ∙ not-false _ if1.false))
 
-pub begun-spec : {M : Type 1} → statement M
-begun-spec = tie.close (tie.spec (λ c κs. search rules) (λ c κs. search rules) (λ c κs. search rules) (λ c κs. search rules) (λ c κs. search rules)
+pub begun_spec : {M : Type 1} → statement M
+begun_spec = tie.close (tie.spec (λ c κs. search rules) (λ c κs. search rules) (λ c κs. search rules) (λ c κs. search rules) (λ c κs. search rules)
     (λ c. search rules) (λ c κs. search rules) (λ c κs. search rules) checked-requires (λ c. search rules))

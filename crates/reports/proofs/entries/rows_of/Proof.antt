@@ -5,15 +5,15 @@ use Rattle.reports.specs.Entries.{rows_none, rows_are}
 use Rattle.reports.proofs.entries.rows_of.Statement.{statement}
 use Rattle.reports.proofs.entries.rows_of.Tie as tie
 
-returns : tie.Need-returns
+returns : tie.Need-returns-in_default
 returns c =
     absurd (rows_none c.before.before.before.args.e c.before.before.before.requires (sym
-    c.before.before.count_of.ensures ∙ c.enum_told.given.1))
+    c.before.before.count_of.ensures ∙ c.in_default.is))
 
-returns-2 : tie.Need-returns-2
+returns-2 : tie.Need-returns
 returns-2 c =
     let start = c.before.before.before.before in
-    rows_are start.args.e start.requires _ (sym c.before.before.before.count_of.ensures ∙ c.before.n.given.1)
+    rows_are start.args.e start.requires _ (sym c.before.before.before.count_of.ensures ∙ c.before.in-Rows.is)
 
-pub rows-of-spec : {M : Type 1} → statement M
-rows-of-spec = tie.close (tie.spec (λ c κs. search rules) (λ c. search rules) (λ c. search rules) returns returns-2)
+pub rows_of_spec : {M : Type 1} → statement M
+rows_of_spec = tie.close (tie.spec (λ c κs. search rules) (λ c. search rules) (λ c. search rules) returns returns-2)

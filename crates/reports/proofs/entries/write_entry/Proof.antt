@@ -9,28 +9,28 @@ use Rattle.reports.specs.Entries.{summary_short, entry_is}
 use Rattle.reports.proofs.entries.write_entry.Statement.{statement}
 use Rattle.reports.proofs.entries.write_entry.Tie as tie
 
-rows-of-requires : tie.Need-rows-of-requires
+rows-of-requires : tie.Need-rows_of-rows-requires
 rows-of-requires c κs = c.before.requires.0.counts
 
-write-decimal-requires : tie.Need-write-decimal-requires
+write-decimal-requires : tie.Need-write_decimal-a-requires
 write-decimal-requires c κs = omega (arith, decimal_short c.before.before.before.args.i)
 
-decimal-requires : tie.Need-decimal-requires
+decimal-requires : tie.Need-decimal-b-requires
 decimal-requires c κs =
     let start = c.before.before.before.before.before.before.before in
-    omega (arith, c.before.before.before.write-decimal.ensures.1, c.before.before.before.write-decimal.auto.1.0, decimal_short start.args.i)
+    omega (arith, c.before.before.before.write_decimal-a.ensures.1, c.before.before.before.write_decimal-a.auto.1.0, decimal_short start.args.i)
 
-write-summary-requires : tie.Need-write-summary-requires
+write-summary-requires : tie.Need-write_summary-c-requires
 write-summary-requires c κs =
     let write-decimal = c.before.before.before.before.before.before.before in
     let rows_of_lem = write-decimal.before.before in
     let start = rows_of_lem.before.before in
-    let e = c.before.before.before.decimal.ensures in (
+    let e = c.before.before.before.decimal-b.ensures in (
       start.requires.0,
       omega (
         arith,
-        write-decimal.write-decimal.ensures.1,
-        write-decimal.write-decimal.auto.1.0,
+        write-decimal.write_decimal-a.ensures.1,
+        write-decimal.write_decimal-a.auto.1.0,
         decimal_short start.args.i,
         e.end,
         wrote_long e,
@@ -44,12 +44,12 @@ newline-requires c κs =
     let write-decimal = decimal.before.before.before.before in
     let rows_of_lem = write-decimal.before.before in
     let start = rows_of_lem.before.before in
-    let e = decimal.decimal.ensures in
-    let f = c.before.before.before.write-summary.ensures in
+    let e = decimal.decimal-b.ensures in
+    let f = c.before.before.before.write_summary-c.ensures in
     omega (
       arith,
-      write-decimal.write-decimal.ensures.1,
-      write-decimal.write-decimal.auto.1.0,
+      write-decimal.write_decimal-a.ensures.1,
+      write-decimal.write_decimal-a.auto.1.0,
       decimal_short start.args.i,
       e.end,
       wrote_long e,
@@ -67,11 +67,11 @@ returns c =
     let rows_of_lem = write-decimal.before.before in
     let start = rows_of_lem.before.before in
     let a = start.args in
-    let first = wrote_decimal a.i (omega arith) write-decimal.write-decimal.ensures in
-    let rows = wrote_is (ap (λ n. tabbed (decimal_of n ∷ [])) rows_of_lem.rows_of_lem.ensures) decimal.decimal.ensures in
-    wrote_is (entry_is _ _ start.requires.0 a.i) (wrote_both (wrote_both (wrote_both first rows) write-summary.write-summary.ensures)
+    let first = wrote_decimal a.i (omega arith) write-decimal.write_decimal-a.ensures in
+    let rows = wrote_is (ap (λ n. tabbed (decimal_of n ∷ [])) rows_of_lem.rows_of_lem.ensures) decimal.decimal-b.ensures in
+    wrote_is (entry_is _ _ start.requires.0 a.i) (wrote_both (wrote_both (wrote_both first rows) write-summary.write_summary-c.ensures)
     c.before.before.newline.ensures)
 
-pub write-entry-spec : {M : Type 1} → statement M
-write-entry-spec =
+pub write_entry_spec : {M : Type 1} → statement M
+write_entry_spec =
     tie.close (tie.spec rows-of-requires write-decimal-requires decimal-requires write-summary-requires newline-requires (λ c. search rules) returns)

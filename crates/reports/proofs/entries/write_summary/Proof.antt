@@ -10,13 +10,13 @@ use Rattle.reports.specs.Entries.{slots_few, deviations_in, means_short, summary
 use Rattle.reports.proofs.entries.write_summary.Statement.{statement}
 use Rattle.reports.proofs.entries.write_summary.Tie as tie
 
-hexes-requires-2 : tie.Need-hexes-requires-2
+hexes-requires-2 : tie.Need-hexes-requires
 hexes-requires-2 c κs =
     let hexes = c.before.before.before.before in
     let at_slots = hexes.before.before.before.before.before in
     let start = at_slots.before.before in
-    let slots = at_slots.slots.ensures in
-    let e = hexes.hexes.ensures in
+    let slots = at_slots.slots-slots.ensures in
+    let e = hexes.hexes-end.ensures in
     let f = start.requires.0 in
     (omega (arith, slots, deviations_in _ _ f), omega (arith, slots, e.end, wrote_long e, means_short _ _ f, slots_few _ f.sized))
 
@@ -25,9 +25,9 @@ returns c =
     let hexes = c.before.before.before.before.before.before.before in
     let slots = hexes.before.before.before.before.before in
     let start = slots.before.before in
-    let more = wrote_is (ap (λ k. tabbed (map hex_of (take k start.args.e.deviation))) slots.slots.ensures) c.before.before.hexes2.ensures in
-    wrote_is (summary-is _ _ start.requires.0) (wrote_both hexes.hexes.ensures more)
+    let more = wrote_is (ap (λ k. tabbed (map hex_of (take k start.args.e.deviation-1))) slots.slots-slots.ensures) c.before.before.hexes.ensures in
+    wrote_is (summary-is _ _ start.requires.0) (wrote_both hexes.hexes-end.ensures more)
 
-pub write-summary-spec : {M : Type 1} → statement M
-write-summary-spec =
+pub write_summary_spec : {M : Type 1} → statement M
+write_summary_spec =
     tie.close (tie.spec (λ c κs. search rules) (λ c. search rules) (λ c κs. search rules) (λ c. search rules) hexes-requires-2 (λ c. search rules) returns)

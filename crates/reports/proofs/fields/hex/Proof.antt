@@ -9,24 +9,24 @@ use Rattle.text.specs.Written.{hex_length}
 use Rattle.reports.proofs.fields.hex.Statement.{statement}
 use Rattle.reports.proofs.fields.hex.Tie as tie
 
-write-hex-requires : tie.Need-write-hex-requires
+write-hex-requires : tie.Need-write_hex-requires
 write-hex-requires c κs = simp length-set (omega arith)
 
-same_length : tie.Need-same-length
+same_length : tie.Need-shape_of-out
 same_length c =
     let start = c.before.before.before.before.before in
-    c.before.before.write-hex.auto.1.0 ∙ length-set start.args.out.now _ _
+    c.before.before.write_hex.auto.1.0 ∙ length-set start.args.out.now _ _
 
 returns : tie.Need-returns
 returns c =
     let start = c.before.before.before.before.before in
     wrote_is (tabbed-one (hex_of start.args.x)) (wrote_both (wrote_byte start.args.at start.args.out.now 9 (omega arith))
     (record {
-      bytes_in = c.before.before.write-hex.ensures.0;
-      end = c.before.before.write-hex.ensures.1;
+      bytes_in = c.before.before.write_hex.ensures.0;
+      end = c.before.before.write_hex.ensures.1;
       room = (let e = hex_length
           start.args.x in simp length-set (omega arith));
     }))
 
-pub hex-spec : {M : Type 1} → statement M
-hex-spec = tie.close (tie.spec (λ c. search rules) (λ c. search rules) write-hex-requires same_length returns)
+pub hex_spec : {M : Type 1} → statement M
+hex_spec = tie.close (tie.spec (λ c. search rules) (λ c. search rules) write-hex-requires same_length returns)

@@ -8,5 +8,5 @@ use Rattle.reports.proofs.fields.newline.Tie as tie
 returns : tie.Need-returns
 returns c = wrote_byte c.args.at c.args.out.now 10 (omega arith)
 
-pub newline-spec : {M : Type 1} → statement M
-newline-spec = tie.close (tie.spec (λ c. search rules) (λ c. search rules) (λ c. search rules) returns)
+pub newline_spec : {M : Type 1} → statement M
+newline_spec = tie.close (tie.spec (λ c. search rules) (λ c. search rules) (λ c. search rules) returns)

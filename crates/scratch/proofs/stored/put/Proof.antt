@@ -6,15 +6,15 @@ use Rattle.scratch.specs.Stored.{PairFits, put_is}
 use Rattle.scratch.proofs.stored.put.Statement.{statement}
 use Rattle.scratch.proofs.stored.put.Tie as tie
 
-cast-numbers : tie.Need-overflow-cast-numbers
+cast-numbers : tie.Need-overflow_cast-numbers
 unfolding PairFits
 cast-numbers c = omega (arith, c.before.requires.1.0)
 
-cast-numbers-2 : tie.Need-overflow-cast-numbers-2
+cast-numbers-2 : tie.Need-overflow_cast-numbers-2
 unfolding PairFits
 cast-numbers-2 c = omega (arith, c.before.before.requires.1.1)
 
-slice-write-numbers-2 : tie.Need-slice-write-numbers-2
+slice-write-numbers-2 : tie.Need-bounds-numbers-at-2
 slice-write-numbers-2 c = simp length-set (omega (arith, c.before.before.requires.0.numbers_in))
 
 returns : tie.Need-returns

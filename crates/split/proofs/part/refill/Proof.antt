@@ -10,12 +10,12 @@ use Rattle.split.proofs.part.refill.Tie as tie
 
 returns : tie.Need-returns
 returns c =
-    let set-list = c.before.before.set-list in
+    let set-list = c.before.before.set_list in
     let put = c.before.before.before.before.before.before.put in
     let a = c.before.before.before.before.before.before.before.before.before.before.before.args in
     let ks = take a.len a.list.now in
     set-list.ensures _ ∙ ap (on_node (with_list ks) a.i) (put.ensures a.links.now) ∙ refill_is a.c ks a.i _
 
-pub refill-spec : {M : Type 1} → statement M
-refill-spec =
+pub refill_spec : {M : Type 1} → statement M
+refill_spec =
     tie.close (tie.spec (λ c κs. search rules) (λ c κs. search rules) (λ c. search rules) (λ c. search rules) returns)

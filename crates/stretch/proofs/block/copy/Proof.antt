@@ -8,29 +8,29 @@ use Rattle.stretch.specs.Stretches.{copied_to, copied_turn}
 use Rattle.stretch.proofs.block.copy.Statement.{statement}
 use Rattle.stretch.proofs.block.copy.Tie as tie
 
-abbrev invariant-loop : tie.invariant-loop
+abbrev invariant-loop : tie.invariant-loop-i
 invariant-loop n from b₀ i₀ b i = (i ≤ n) × (length b ≡ length b₀) × (b ≡ copied_to i from b₀)
 
-abbrev decreases-loop : tie.decreases-loop
+abbrev decreases-loop : tie.decreases-loop-i
 decreases-loop n from b₀ i₀ b i = n - i
 
-loop-holds : tie.Need-loop-init invariant-loop decreases-loop
+loop-holds : tie.Need-loop-i-init invariant-loop decreases-loop
 unfolding copied_to
 loop-holds c = (search rules, refl, refl)
 
-loop-again : tie.Need-loop-preserved invariant-loop decreases-loop
+loop-again : tie.Need-loop-i-preserved invariant-loop decreases-loop
 loop-again c =
     let start = c.before.before.before in (
       omega arith,
-      simp length-set c.before.before.loop.invariant.1,
-      ap (λ l. set l c.before.before.loop.i
-          (get_or start.args.from.now c.before.before.loop.i 0)) c.before.before.loop.invariant.2 ∙ copied_turn _ _ _ 0 (omega arith)
+      simp length-set c.before.before.loop-i.invariant.1,
+      ap (λ l. set l c.before.before.loop-i.i
+          (get_or start.args.from.now c.before.before.loop-i.i 0)) c.before.before.loop-i.invariant.2 ∙ copied_turn _ _ _ 0 (omega arith)
           (omega arith),
     )
 
 returns : tie.Need-returns invariant-loop decreases-loop
 unfolding copied_to
-returns c = let e : c.before.loop.i ≡ c.before.before.args.n = omega arith in c.before.loop.invariant.2 ∙ rw e
+returns c = let e : c.before.loop-i.i ≡ c.before.before.args.n = omega arith in c.before.loop-i.invariant.2 ∙ rw e
 
 pub copy_spec : {M : Type 1} → statement M
 copy_spec =

@@ -9,5 +9,5 @@ returns : tie.Need-returns
 unfolding node_in leaf_in
 returns c = λ p. refl
 
-pub is-leaf-spec : {M : Type 1} → statement M
-is-leaf-spec = tie.close (tie.spec (λ c. search rules) returns)
+pub is_leaf_spec : {M : Type 1} → statement M
+is_leaf_spec = tie.close (tie.spec (λ c. search rules) returns)

@@ -13,10 +13,10 @@ use Rattle.stretch.proofs.block.link.Tie as tie
 copy-requires : tie.Need-copy-requires
 copy-requires c κs = (search rules, simp (length-take, length-drop, length-set) (omega arith))
 
-same_length : tie.Need-same-length
+same_length : tie.Need-shape_of-b
 same_length c =
-    let parent-word = c.before.before.before.before.before.parent-word in
-    let kind-word = c.before.before.before.before.kind-word in
+    let parent-word = c.before.before.before.before.before.parent_word in
+    let kind-word = c.before.before.before.before.kind_word in
     let start = c.before.before.before.before.before.before.before.before in
     let b = set (set start.args.b.now 0 parent-word.result) 1 kind-word.result in
     same_len_mid 2 (length b - 2) b c.before.before.copy.new.1.1.0 c.before.before.copy.auto.1.1.0 ∙ simp length-set
@@ -24,14 +24,14 @@ same_length c =
 returns : tie.Need-returns
 unfolding put_stretch
 returns c =
-    let parent-word = c.before.before.before.before.before.parent-word in
-    let kind-word = c.before.before.before.before.kind-word in
+    let parent-word = c.before.before.before.before.before.parent_word in
+    let kind-word = c.before.before.before.before.kind_word in
     let start = c.before.before.before.before.before.before.before.before in
     λ p. link_is start.args.s p start.args.parent start.args.leaf start.args.len parent-word.result kind-word.result
     start.args.b.now c.before.before.copy.new.1.1.0 start.args.list.now start.requires.0 start.requires.1 start.requires.2
     start.requires.3 parent-word.ensures kind-word.ensures c.before.before.copy.ensures
 
-pub link-spec : {M : Type 1} → statement M
-link-spec =
+pub link_spec : {M : Type 1} → statement M
+link_spec =
     tie.close (tie.spec (λ c κs. search rules) (λ c. search rules) (λ c κs. search rules) (λ c. simp length-set (omega arith))
     (λ c. simp length-set (omega arith)) (λ c. simp length-set (omega arith)) (λ c. search rules) copy-requires same_length returns)

@@ -16,10 +16,10 @@ returns : tie.Need-returns
 returns c = (
   λ p. sym (list_place c.before.args.s c.before.args.b.now c.before.requires.0 p c.before.args.i (c.before.requires.1 p)),
   omega
-      (arith, c.shared-slice-known.given (2 + c.before.args.i)),
+      (arith, c.shared_slice_known-1.given (2 + c.before.args.i)),
 )
 
-pub list-at-spec : {M : Type 1} → statement M
-list-at-spec =
+pub list_at_spec : {M : Type 1} → statement M
+list_at_spec =
     tie.close (tie.spec (λ c. omega (arith, room c)) (λ c. omega (arith, room c)) (λ c. omega (arith, room (c.before)))
-    (λ c. omega (arith, c.shared-slice-known.given (2 + c.before.args.i))) returns)
+    (λ c. omega (arith, c.shared_slice_known-1.given (2 + c.before.args.i))) returns)

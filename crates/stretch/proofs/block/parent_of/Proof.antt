@@ -6,16 +6,16 @@ use Rattle.stretch.specs.Blocks.{parent_of, parent_none, parent_some}
 use Rattle.stretch.proofs.block.parent_of.Statement.{statement}
 use Rattle.stretch.proofs.block.parent_of.Tie as tie
 
-cast-t8 : tie.Need-overflow-cast-t8
-cast-t8 c = omega (arith, c.before.shared-slice-known.given 0)
+cast-t8 : tie.Need-overflow_cast-result
+cast-t8 c = omega (arith, c.before.shared_slice_known-1.given 0)
 
-returns : tie.Need-returns
+returns : tie.Need-returns-then-word
 unfolding node_in parent_of
-returns c = λ p. parent_none _ c.if1.true
+returns c = λ p. parent_none _ c.if-word.true
 
-returns-2 : tie.Need-returns-2
+returns-2 : tie.Need-returns-else-word
 unfolding node_in parent_of
-returns-2 c = λ p. parent_some _ c.if1.false
+returns-2 c = λ p. parent_some _ c.if-word.false
 
-pub parent-of-spec : {M : Type 1} → statement M
-parent-of-spec = tie.close (tie.spec (λ c. search rules) cast-t8 returns returns-2)
+pub parent_of_spec : {M : Type 1} → statement M
+parent_of_spec = tie.close (tie.spec (λ c. search rules) cast-t8 returns returns-2)

@@ -6,16 +6,16 @@ use Rattle.stretch.specs.Blocks.{parent_of, number_fits}
 use Rattle.stretch.proofs.block.parent_word.Statement.{statement}
 use Rattle.stretch.proofs.block.parent_word.Tie as tie
 
-cast-result : tie.Need-overflow-cast-result
-cast-result c = let start = c.before.before.before in omega (arith, number_fits start.args.p _ c.before.p.given.1 start.requires)
+cast-result : tie.Need-overflow_cast-result
+cast-result c = let start = c.before.before.before in omega (arith, number_fits start.args.p _ c.before.in-Node.is start.requires)
 
-returns : tie.Need-returns
+returns : tie.Need-returns-in-Node
 unfolding parent_of parent_out
-returns c = rw c.before.p.given.1
+returns c = rw c.before.in-Node.is
 
-returns-2 : tie.Need-returns-2
+returns-2 : tie.Need-returns-in-NoParent
 unfolding parent_of parent_out
-returns-2 c = rw c.enum_told.given.1
+returns-2 c = rw c.in-NoParent.is
 
-pub parent-word-spec : {M : Type 1} → statement M
-parent-word-spec = tie.close (tie.spec (λ c. search rules) cast-result (λ c. search rules) returns returns-2)
+pub parent_word_spec : {M : Type 1} → statement M
+parent_word_spec = tie.close (tie.spec (λ c. search rules) cast-result (λ c. search rules) returns returns-2)

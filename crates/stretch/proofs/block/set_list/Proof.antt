@@ -13,9 +13,9 @@ use Rattle.stretch.proofs.block.set_list.Tie as tie
 copy-requires : tie.Need-copy-requires
 copy-requires c κs = (search rules, simp (length-take, length-drop, length-set) (omega arith))
 
-same_length : tie.Need-same-length
+same_length : tie.Need-shape_of-b
 same_length c =
-    let kind-word = c.before.before.before.before.kind-word in
+    let kind-word = c.before.before.before.before.kind_word in
     let start = c.before.before.before.before.before.before.before.before.before in
     let b = set start.args.b.now 1 kind-word.result in
     same_len_mid 2 (length b - 2) b c.before.before.copy.new.1.1.0 c.before.before.copy.auto.1.1.0 ∙ simp length-set
@@ -23,14 +23,14 @@ same_length c =
 returns : tie.Need-returns
 unfolding put_stretch
 returns c =
-    let is_leaf = c.before.before.before.before.before.is_leaf in
-    let kind-word = c.before.before.before.before.kind-word in
+    let is_leaf = c.before.before.before.before.before.is_leaf-leaf in
+    let kind-word = c.before.before.before.before.kind_word in
     let start = c.before.before.before.before.before.before.before.before.before in
     λ p. list_is start.args.s p is_leaf.result start.args.len kind-word.result start.args.b.now
     c.before.before.copy.new.1.1.0 start.args.list.now start.requires.0 start.requires.1 start.requires.2 (is_leaf.ensures p)
     kind-word.ensures c.before.before.copy.ensures
 
-pub set-list-spec : {M : Type 1} → statement M
-set-list-spec =
+pub set_list_spec : {M : Type 1} → statement M
+set_list_spec =
     tie.close (tie.spec (λ c κs. search rules) (λ c κs. search rules) (λ c. search rules) (λ c. simp length-set (omega arith))
     (λ c. simp length-set (omega arith)) (λ c. search rules) copy-requires same_length returns)

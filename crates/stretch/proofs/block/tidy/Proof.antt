@@ -13,15 +13,15 @@ use Rattle.stretch.proofs.block.tidy.Statement.{statement}
 use Rattle.stretch.proofs.block.tidy.Tie as tie
 
 -- the list is in the block
-room : (c : tie.After-list-len) → c.list-len.result + 2 ≤ length c.before.before.before.before.before.args.b.now
+room : (c : tie.After-list_len-len) → c.list_len-len.result + 2 ≤ length c.before.before.before.before.before.args.b.now
 room c =
     let start = c.before.before.before.before.before in
-    rw (c.list-len.ensures []) (list_in start.args.s start.args.b.now start.requires [])
+    rw (c.list_len-len.ensures []) (list_in start.args.s start.args.b.now start.requires [])
 
-same_length : tie.Need-same-length
+same_length : tie.Need-shape_of-b
 same_length c =
-    let kind-word = c.before.before.before.before.kind-word in
-    let list-len = c.before.before.before.before.before.list-len in
+    let kind-word = c.before.before.before.before.kind_word in
+    let list-len = c.before.before.before.before.before.list_len-len in
     let start = c.before.before.before.before.before.before.before.before.before.before in
     let b = set start.args.b.now 1 kind-word.result in
     let end = 2 + list-len.result in
@@ -30,15 +30,15 @@ same_length c =
 returns : tie.Need-returns
 unfolding put_stretch
 returns c =
-    let is_leaf = c.before.before.before.before.before.before.before.is_leaf in
-    let list-len = c.before.before.before.before.before.list-len in
-    let kind-word = c.before.before.before.before.kind-word in
+    let is_leaf = c.before.before.before.before.before.before.before.is_leaf-leaf in
+    let list-len = c.before.before.before.before.before.list_len-len in
+    let kind-word = c.before.before.before.before.kind_word in
     let start = c.before.before.before.before.before.before.before.before.before.before in
     λ p. tidy_block_lem start.args.s p start.args.b.now c.before.before.zero.new.0 is_leaf.result list-len.result
     kind-word.result start.requires (is_leaf.ensures p) (list-len.ensures p) kind-word.ensures c.before.before.zero.ensures
 
-pub tidy-spec : {M : Type 1} → statement M
-tidy-spec =
+pub tidy_spec : {M : Type 1} → statement M
+tidy_spec =
     tie.close (tie.spec (λ c κs. search rules) (λ c κs. search rules) (λ c. omega (arith, room c)) (λ c κs. omega (arith, room c)) (λ c. search rules)
     (λ c. omega (arith, room (c.before), c.before.before.before.before.before.before.requires.few))
     (λ c. (let l = room (c.before) in simp length-set (omega arith))) (λ c. (let l = room (c.before) in simp length-set (omega arith)))

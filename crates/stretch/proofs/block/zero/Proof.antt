@@ -8,28 +8,28 @@ use Rattle.stretch.specs.Stretches.{zeroed, zeroed_turn, zeroed-all}
 use Rattle.stretch.proofs.block.zero.Statement.{statement}
 use Rattle.stretch.proofs.block.zero.Tie as tie
 
-abbrev invariant-loop : tie.invariant-loop
+abbrev invariant-loop : tie.invariant-loop-i
 invariant-loop b₀ i₀ b i = (i ≤ length b₀) × (length b ≡ length b₀) × (b ≡ zeroed 0 i b₀)
 
-abbrev decreases-loop : tie.decreases-loop
+abbrev decreases-loop : tie.decreases-loop-i
 decreases-loop b₀ i₀ b i = length b₀ - i
 
-loop-holds : tie.Need-loop-init invariant-loop decreases-loop
+loop-holds : tie.Need-loop-i-init invariant-loop decreases-loop
 unfolding zeroed
 loop-holds c = (search rules, refl, refl)
 
-loop-again : tie.Need-loop-preserved invariant-loop decreases-loop
+loop-again : tie.Need-loop-i-preserved invariant-loop decreases-loop
 loop-again c = (
   omega arith,
-  simp length-set c.before.loop.invariant.1,
-  ap (λ l. set l c.before.loop.i 0) c.before.loop.invariant.2 ∙ zeroed_turn 0 _ _
+  simp length-set c.before.loop-i.invariant.1,
+  ap (λ l. set l c.before.loop-i.i 0) c.before.loop-i.invariant.2 ∙ zeroed_turn 0 _ _
       (omega arith),
 )
 
 returns : tie.Need-returns invariant-loop decreases-loop
-returns c = c.before.loop.invariant.2 ∙ zeroed-all 0 _ _ (omega arith) (omega arith)
+returns c = c.before.loop-i.invariant.2 ∙ zeroed-all 0 _ _ (omega arith) (omega arith)
 
-pub zero-spec : {M : Type 1} → statement M
-zero-spec =
+pub zero_spec : {M : Type 1} → statement M
+zero_spec =
     tie.close (tie.spec invariant-loop decreases-loop loop-holds (λ c. search rules) (λ c. search rules) (λ c. search rules) (λ c. search rules) loop-again
     (λ c. search rules) returns)

@@ -7,15 +7,15 @@ use Rattle.stretch.proofs.slot.between.Tie as tie
 
 returns : tie.Need-returns
 returns c =
-    let gap = c.before.before.before.before.before.before.before.gap in
-    let ssd = c.before.before.before.before.before.ssd in
-    let ssd2 = c.before.before.before.ssd2 in
+    let gap = c.before.before.before.before.before.before.before.gap-q in
+    let ssd = c.before.before.before.before.before.ssd-u in
+    let ssd2 = c.before.before.before.ssd-v in
     let start = c.before.before.before.before.before.before.before.before.before.before.before.before in
-    c.to-summary.ensures ∙ between_parts start.args.s start.requires.0 start.args.p.now start.args.o.now start.requires.1
+    c.to_summary.ensures ∙ between_parts start.args.s start.requires.0 start.args.p.now start.args.o.now start.requires.1
     start.requires.2 start.args.k _ _ _ gap.ensures ssd.ensures ssd2.ensures
 
-pub between-spec : {M : Type 1} → statement M
-between-spec =
+pub between_spec : {M : Type 1} → statement M
+between_spec =
     tie.close (tie.spec (λ c. search rules) (λ c. search rules) (λ c. search rules) (λ c. search rules) (λ c. search rules) (λ c. search rules)
     (λ c. search rules) (λ c κs. search rules) (λ c. search rules) (λ c. search rules) (λ c. search rules) (λ c. search rules) (λ c κs. search rules)
     (λ c. search rules) (λ c. search rules) (λ c. search rules) (λ c. search rules) (λ c κs. search rules) (λ c. search rules) (λ c. search rules)

@@ -10,34 +10,35 @@ use Rattle.kernels.specs.Laws.{up_to_turn, up_to_pass, min_start, min_end}
 use Rattle.stretch.specs.Slots.{up_to-all}
 use Rattle.stretch.proofs.slot.copy.Statement.{statement}
 use Rattle.stretch.proofs.slot.copy.Tie as tie
+use Rattle.stretch.proofs.slot.copy.Lts.{else-i-n, then-i-n}
 
-abbrev invariant-loop : tie.invariant-loop
+abbrev invariant-loop : tie.invariant-loop-i
 invariant-loop n p₀ from i₀ p i = (i ≤ 8) × (length p ≡ n) × (p ≡ up_to (at from) (min i n) p₀)
 
-abbrev decreases-loop : tie.decreases-loop
+abbrev decreases-loop : tie.decreases-loop-i
 decreases-loop n p₀ from i₀ p i = 8 - i
 
-loop-holds : tie.Need-loop-init invariant-loop decreases-loop
+loop-holds : tie.Need-loop-i-init invariant-loop decreases-loop
 loop-holds c = (search rules, search rules, rw min_start (unfold up_to in refl))
 
-loop-again : tie.Need-loop-preserved invariant-loop decreases-loop
+loop-again : tie.Need-loop-i-preserved invariant-loop decreases-loop
 loop-again c = (
   omega arith,
-  elim c.if1.branch [
-    | inl w ↦ ap length w.1 ∙ simp length-set c.before.before.loop.invariant.1
-    | inr w ↦ ap length w.1
-        ∙ c.before.before.loop.invariant.1
+  elim c.if-i-n.branch [
+    | then-i-n w ↦ ap length w.1 ∙ simp length-set c.before.before.loop-i.invariant.1
+    | else-i-n w ↦ ap length w.1
+        ∙ c.before.before.loop-i.invariant.1
   ],
-  elim c.if1.branch [
-    | inl w ↦ w.1 ∙ rw c.before.before.loop.invariant.2
-        (sym (up_to_turn _ _ _ _ w.0.taken))
-    | inr w ↦ w.1 ∙ c.before.before.loop.invariant.2 ∙ sym (up_to_pass _ _ _ _ w.0.left)
+  elim c.if-i-n.branch [
+    | then-i-n w ↦ w.1 ∙ rw c.before.before.loop-i.invariant.2
+        (sym (up_to_turn _ _ _ _ w.if-i-n.true))
+    | else-i-n w ↦ w.1 ∙ c.before.before.loop-i.invariant.2 ∙ sym (up_to_pass _ _ _ _ w.if-i-n.false)
   ],
 )
 
 returns : tie.Need-returns invariant-loop decreases-loop
 returns c =
-    c.before.loop.invariant.2 ∙ rw (min_end c.before.loop.i c.before.before.args.n (omega arith))
+    c.before.loop-i.invariant.2 ∙ rw (min_end c.before.loop-i.i c.before.before.args.n (omega arith))
     (up_to-all c.before.before.args.n _ c.before.before.args.p.now
     (let l : length c.before.before.args.t2 ≡ 8 = search rules in omega arith) (search rules))
 

@@ -11,33 +11,33 @@ use Rattle.stretch.specs.Pushes.{deviate_one}
 use Rattle.stretch.proofs.slot.deviate.Statement.{statement}
 use Rattle.stretch.proofs.slot.deviate.Tie as tie
 
-slice-aggregate-sq-euclidean : tie.Need-slice-aggregate-sq-euclidean
+slice-aggregate-sq-euclidean : tie.Need-slice_bounds-sq_euclidean-end-in-Spherical
 slice-aggregate-sq-euclidean c =
     let start = c.before.before.before.before.before in
     sym (length-take-le start.args.dim start.args.q.now (omega arith))
 
-sq-euclidean-requires : tie.Need-sq-euclidean-requires
+sq-euclidean-requires : tie.Need-sq_euclidean-sum-requires
 sq-euclidean-requires c κs = (search rules, search rules, simp length-take (omega arith))
 
-returns : tie.Need-returns
+returns : tie.Need-returns-in-Spherical
 returns c =
-    let enum_told = c.before.before.before.enum_told in
+    let enum_told = c.before.before.before.enum_told-1 in
     let start = c.before.before.before.before.before.before.before in
     let a = start.args in
-    deviate_one a.dim a.coef c.before.sq-euclidean.result a.q.now a.x.now c.before.sq-euclidean.ensures ∙ ap
+    deviate_one a.dim a.coef c.before.sq_euclidean-sum.result a.q.now a.x.now c.before.sq_euclidean-sum.ensures ∙ ap
     (λ f. take a.dim a.q.now ++ deviated f a.dim a.coef a.q.now (drop a.dim a.q.now) a.x.now) (sym enum_told.given.1)
 
-returns-2 : tie.Need-returns-2
+returns-2 : tie.Need-returns-in-Diagonal
 unfolding deviated
 returns-2 c =
-    let enum-told2 = c.before.before.before.before.enum-told2 in
+    let enum-told2 = c.before.before.before.before.enum_told-in-Diagonal-1 in
     let start = c.before.before.before.before.before.before.before.before in
     let a = start.args in
     c.before.before.widen.ensures ∙ widened (added_at a.coef a.q.now (drop a.dim a.q.now) a.x.now) a.dim a.q.now ∙ ap
     (λ f. take a.dim a.q.now ++ deviated f a.dim a.coef a.q.now (drop a.dim a.q.now) a.x.now) (sym enum-told2.given.1)
 
-pub deviate-spec : {M : Type 1} → statement M
-deviate-spec =
+pub deviate_spec : {M : Type 1} → statement M
+deviate_spec =
     tie.close (tie.spec (λ c. search rules) (λ c. search rules) slice-aggregate-sq-euclidean sq-euclidean-requires (λ c. search rules)
     (λ c. search rules) (λ c. search rules) (λ c. search rules) (λ c. search rules) (λ c κs. search rules) (λ c. search rules) returns
     (λ c. search rules) returns-2)

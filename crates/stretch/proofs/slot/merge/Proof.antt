@@ -11,8 +11,8 @@ use Rattle.stretch.proofs.slot.merge.Tie as tie
 
 returns : tie.Need-returns
 returns c =
-    let merge = c.before.before.before.before.merge in
-    let load = c.before.before.before.before.before.load in
+    let merge = c.before.before.before.before.merge-new in
+    let load = c.before.before.before.before.before.load-old in
     let start = c.before.before.before.before.before.before.before.before in
     let f = start.args.s.feature in
     let n = start.args.s.dim in
@@ -20,5 +20,5 @@ returns c =
     (rw merge.ensures (merged_shaped f n _ _ (rw load.ensures (in_shaped start.args.s start.requires.0 _)) start.requires.2)) ∙ merge.ensures
     ∙ ap (λ x. merged f n x start.args.c) load.ensures
 
-pub merge-spec : {M : Type 1} → statement M
-merge-spec = tie.close (tie.spec (λ c κs. search rules) (λ c κs. search rules) (λ c κs. search rules) (λ c. search rules) returns)
+pub merge_spec : {M : Type 1} → statement M
+merge_spec = tie.close (tie.spec (λ c κs. search rules) (λ c κs. search rules) (λ c κs. search rules) (λ c. search rules) returns)

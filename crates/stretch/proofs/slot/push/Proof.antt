@@ -9,7 +9,7 @@ use Rattle.stretch.specs.Pushes.{push_parts}
 use Rattle.stretch.proofs.slot.push.Statement.{statement}
 use Rattle.stretch.proofs.slot.push.Tie as tie
 
-same_length : tie.Need-same-length
+same_length : tie.Need-shape_of-p
 same_length c =
     let deviate = c.before.before.before.before.before.before.deviate in
     let start = c.before.before.before.before.before.before.before.before.before.before.before in

@@ -11,37 +11,38 @@ use Rattle.feature.specs.Steps.{moved_at}
 use Rattle.stretch.specs.Slots.{shift_turn}
 use Rattle.stretch.proofs.slot.shift.Statement.{statement}
 use Rattle.stretch.proofs.slot.shift.Tie as tie
+use Rattle.stretch.proofs.slot.shift.Lts.{else-i-dim, then-i-dim}
 
-abbrev invariant-loop : tie.invariant-loop
+abbrev invariant-loop : tie.invariant-loop-i
 invariant-loop dim factor m₀ x i₀ m i = (i ≤ 8) × (length m ≡ dim) × (m ≡ up_to (moved_at factor m₀ x) (min i dim) m₀)
 
-abbrev decreases-loop : tie.decreases-loop
+abbrev decreases-loop : tie.decreases-loop-i
 decreases-loop dim factor m₀ x i₀ m i = 8 - i
 
-loop-holds : tie.Need-loop-init invariant-loop decreases-loop
+loop-holds : tie.Need-loop-i-init invariant-loop decreases-loop
 loop-holds c = (search rules, search rules, rw min_start (unfold up_to in refl))
 
-loop-again : tie.Need-loop-preserved invariant-loop decreases-loop
+loop-again : tie.Need-loop-i-preserved invariant-loop decreases-loop
 loop-again c =
     let start = c.before.before.before in (
       omega arith,
-      elim c.if1.branch [
-        | inl w ↦ ap length w.4 ∙ simp length-set c.before.before.loop.invariant.1
-        | inr w ↦ ap length w.1
-            ∙ c.before.before.loop.invariant.1
+      elim c.if-i-dim.branch [
+        | then-i-dim w ↦ ap length w.4 ∙ simp length-set c.before.before.loop-i.invariant.1
+        | else-i-dim w ↦ ap length w.1
+            ∙ c.before.before.loop-i.invariant.1
       ],
-      elim c.if1.branch [
-        | inl w ↦ w.4 ∙ shift_turn start.args.factor start.args.dim
-            c.before.before.loop.i start.args.m.now start.args.x.now c.before.before.loop.m c.before.before.loop.invariant.2
-            w.0.taken
-        | inr w ↦ w.1 ∙ c.before.before.loop.invariant.2 ∙ sym (up_to_pass _ _ _ _ w.0.left)
+      elim c.if-i-dim.branch [
+        | then-i-dim w ↦ w.4 ∙ shift_turn start.args.factor start.args.dim
+            c.before.before.loop-i.i start.args.m.now start.args.x.now c.before.before.loop-i.m c.before.before.loop-i.invariant.2
+            w.if-i-dim.true
+        | else-i-dim w ↦ w.1 ∙ c.before.before.loop-i.invariant.2 ∙ sym (up_to_pass _ _ _ _ w.if-i-dim.false)
       ],
     )
 
 returns : tie.Need-returns invariant-loop decreases-loop
-returns c = c.before.loop.invariant.2 ∙ rw (min_end c.before.loop.i c.before.before.args.dim (omega arith))
+returns c = c.before.loop-i.invariant.2 ∙ rw (min_end c.before.loop-i.i c.before.before.args.dim (omega arith))
 
-pub shift-spec : {M : Type 1} → statement M
-shift-spec =
+pub shift_spec : {M : Type 1} → statement M
+shift_spec =
     tie.close (tie.spec invariant-loop decreases-loop loop-holds (λ c. search rules) (λ c. search rules) (λ c. search rules) (λ c. search rules) (λ c. search rules)
     (λ c. search rules) (λ c. search rules) (λ c. search rules) (λ c. search rules) (λ c. search rules) loop-again (λ c. search rules) returns)

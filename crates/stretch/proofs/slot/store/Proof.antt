@@ -13,7 +13,7 @@ use Rattle.stretch.proofs.slot.store.Statement.{statement}
 use Rattle.stretch.proofs.slot.store.Tie as tie
 
 -- with its weight and its means written, the slot is as long as it was
-long : (c : tie.After-slice-known2)
+long : (c : tie.After-slice_known-2-1)
     → length (put_mid 1 (1 + c.before.before.before.before.before.before.before.before.args.s.dim - 1)
     (set c.before.before.before.before.before.before.before.before.args.p.now 0
     c.before.before.before.before.before.before.before.before.args.c.weight) c.before.before.copy.new.1.1.0) ≡ length
@@ -26,13 +26,13 @@ long c =
 fill-requires : tie.Need-fill-requires
 fill-requires c κs =
     let start = c.before.before.before.before.before.before.before.before.before in
-    let slots = c.before.before.before.before.before.before.before.slots in
+    let slots = c.before.before.before.before.before.before.before.slots-n in
     let l = long c.before in
     let few = slots_in_lem start.args.s start.requires.0 in
     let n = slots.ensures in
     (omega arith, simp (length-take, length-drop) (omega arith))
 
-same_length : tie.Need-same-length
+same_length : tie.Need-shape_of-p
 same_length c =
     let copy = c.before.before.before.before.before.before.copy in
     let start = c.before.before.before.before.before.before.before.before.before.before.before.before in
@@ -44,7 +44,7 @@ same_length c =
 returns : tie.Need-returns
 unfolding put_stretch
 returns c =
-    let slots = c.before.before.before.before.before.before.before.before.before.before.slots in
+    let slots = c.before.before.before.before.before.before.before.before.before.before.slots-n in
     let copy = c.before.before.before.before.before.before.copy in
     let start = c.before.before.before.before.before.before.before.before.before.before.before.before in
     let few = slots_in_lem start.args.s start.requires.0 in

@@ -9,18 +9,18 @@ use Rattle.stretch.proofs.slot.tidy.Statement.{statement}
 use Rattle.stretch.proofs.slot.tidy.Tie as tie
 
 -- no more deviations are kept than there are channels
-few : (c : tie.After-slots) → c.slots.result ≤ c.before.before.args.s.dim
-few c = rw c.slots.ensures (slots_in_lem c.before.before.args.s c.before.before.requires.0)
+few : (c : tie.After-slots-n) → c.slots-n.result ≤ c.before.before.args.s.dim
+few c = rw c.slots-n.ensures (slots_in_lem c.before.before.args.s c.before.before.requires.0)
 
 returns : tie.Need-returns
 unfolding put_stretch
 returns c =
-    let slots = c.before.before.before.before.slots in
+    let slots = c.before.before.before.before.slots-n in
     let start = c.before.before.before.before.before.before in
     tidy_slot_lem start.args.s start.requires.0 start.args.p.now c.before.before.zero.new.0 slots.result start.requires.1
     slots.ensures (few c.before.before.before.before) c.before.before.zero.ensures
 
-pub tidy-spec : {M : Type 1} → statement M
-tidy-spec =
+pub tidy_spec : {M : Type 1} → statement M
+tidy_spec =
     tie.close (tie.spec (λ c κs. search rules) (λ c. search rules) (λ c. omega (arith, few c)) (λ c. omega (arith, few c)) (λ c. omega (arith, few c))
     (λ c. omega (arith, few c)) (λ c. search rules) (λ c κs. search rules) (λ c. search rules) returns)

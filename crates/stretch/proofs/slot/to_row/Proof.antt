@@ -7,12 +7,12 @@ use Rattle.stretch.proofs.slot.to_row.Tie as tie
 
 returns : tie.Need-returns
 returns c =
-    let gap = c.before.before.before.before.gap in
+    let gap = c.before.before.before.before.gap-q in
     let start = c.before.before.before.before.before.before.before.before in
     c.to_row.ensures ∙ point_parts start.args.s start.requires.0 start.args.p.now start.requires.1 start.args.k start.args.row.now _
-    _ gap.ensures c.before.before.ssd.ensures
+    _ gap.ensures c.before.before.ssd-v.ensures
 
-pub to-row-spec : {M : Type 1} → statement M
-to-row-spec =
+pub to_row_spec : {M : Type 1} → statement M
+to_row_spec =
     tie.close (tie.spec (λ c. search rules) (λ c. search rules) (λ c. search rules) (λ c. search rules) (λ c κs. search rules) (λ c. search rules)
     (λ c. search rules) (λ c. search rules) (λ c. search rules) (λ c κs. search rules) (λ c. search rules) (λ c κs. search rules) returns)

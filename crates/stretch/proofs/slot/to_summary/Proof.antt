@@ -7,13 +7,13 @@ use Rattle.stretch.specs.Slots.{summary_parts}
 use Rattle.stretch.proofs.slot.to_summary.Statement.{statement}
 use Rattle.stretch.proofs.slot.to_summary.Tie as tie
 
-gap-requires : tie.Need-gap-requires
+gap-requires : tie.Need-gap-q-requires
 gap-requires c κs =
     let start = c.before.before.before.before.before in
     let l : length start.args.c.mean ≡ 8 = search rules in
     (search rules, search rules, omega arith)
 
-ssd-requires-2 : tie.Need-ssd-requires-2
+ssd-requires-2 : tie.Need-ssd-v-requires
 ssd-requires-2 c κs =
     let start = c.before.before.before.before.before.before.before.before.before in
     let l : length start.args.c.deviation ≡ 8 = search rules in
@@ -21,14 +21,14 @@ ssd-requires-2 c κs =
 
 returns : tie.Need-returns
 returns c =
-    let gap = c.before.before.before.before.before.before.gap in
-    let ssd = c.before.before.before.before.ssd in
+    let gap = c.before.before.before.before.before.before.gap-q in
+    let ssd = c.before.before.before.before.ssd-u in
     let start = c.before.before.before.before.before.before.before.before.before.before.before.before in
-    c.to-summary.ensures ∙ rw c.before.before.ssd2.ensures (summary_parts start.args.s start.requires.0 start.args.p.now
+    c.to_summary.ensures ∙ rw c.before.before.ssd-v.ensures (summary_parts start.args.s start.requires.0 start.args.p.now
     start.requires.1 start.args.k start.args.c _ _ gap.ensures ssd.ensures)
 
-pub to-summary-spec : {M : Type 1} → statement M
-to-summary-spec =
+pub to_summary_spec : {M : Type 1} → statement M
+to_summary_spec =
     tie.close (tie.spec (λ c. search rules) (λ c. search rules) (λ c. search rules) (λ c. search rules) (λ c. search rules) gap-requires
     (λ c. search rules) (λ c. search rules) (λ c. search rules) (λ c. search rules) (λ c κs. search rules) (λ c. search rules) ssd-requires-2
     (λ c. search rules) (λ c κs. search rules) returns)

@@ -9,5 +9,5 @@ returns : tie.Need-returns
 unfolding summary_in
 returns c = refl
 
-pub weight-spec : {M : Type 1} → statement M
-weight-spec = tie.close (tie.spec (λ c. search rules) returns)
+pub weight_spec : {M : Type 1} → statement M
+weight_spec = tie.close (tie.spec (λ c. search rules) returns)

@@ -8,48 +8,48 @@ use Rattle.text.specs.Fields.{Begins, begins_first, begins_next, begins_is, end_
 use Rattle.text.proofs.fields.field.Statement.{statement}
 use Rattle.text.proofs.fields.field.Tie as tie
 
-abbrev invariant-loop : tie.invariant-loop
+abbrev invariant-loop : tie.invariant-loop-j
 invariant-loop line k from₀ j₀ from j = (j ≤ k) × (from ≤ length line) × Begins line j from
 
-abbrev decreases-loop : tie.decreases-loop
+abbrev decreases-loop : tie.decreases-loop-j
 decreases-loop line k from₀ j₀ from j = k - j
 
-loop-holds : tie.Need-loop-init invariant-loop decreases-loop
+loop-holds : tie.Need-loop-j-init invariant-loop decreases-loop
 loop-holds c = (search rules, search rules, begins_first c.before.args.line.now)
 
-add-from : tie.Need-overflow-add-from invariant-loop decreases-loop
+add-from : tie.Need-overflow_add-from invariant-loop decreases-loop
 add-from c =
     let start = c.before.before.before.before in
-    let loop = c.before.before.loop in
+    let loop = c.before.before.loop-j in
     omega (arith, (begins_next start.args.line.now loop.j loop.from c.end_of_lem.result loop.invariant.2 c.end_of_lem.ensures (omega arith)).0)
 
-loop-again : tie.Need-loop-preserved invariant-loop decreases-loop
+loop-again : tie.Need-loop-j-preserved invariant-loop decreases-loop
 loop-again c =
     let start = c.before.before.before.before in
-    let loop = c.before.before.loop in
+    let loop = c.before.before.loop-j in
     let next = begins_next start.args.line.now loop.j loop.from c.end_of_lem.result loop.invariant.2 c.end_of_lem.ensures (omega arith) in
     (omega arith, omega (arith, next.0), next.1)
 
-sub-result : tie.Need-overflow-sub-result invariant-loop decreases-loop
-sub-result c = omega (arith, c.end-of2.ensures)
+sub-result : tie.Need-slice_bounds-result-count invariant-loop decreases-loop
+sub-result c = omega (arith, c.end_of-end.ensures)
 
-part-result-start : tie.Need-slice-bounds-result-start invariant-loop decreases-loop
-part-result-start c = omega (arith, c.end-of2.ensures)
+part-result-start : tie.Need-slice_bounds-result-start invariant-loop decreases-loop
+part-result-start c = omega (arith, c.end_of-end.ensures)
 
-part-result-end : tie.Need-slice-bounds-result-end invariant-loop decreases-loop
+part-result-end : tie.Need-slice_bounds-result-end invariant-loop decreases-loop
 part-result-end c =
     let start = c.before.before.before.before in
-    omega (arith, c.end-of2.ensures, end_in start.args.line.now c.before.before.loop.from (omega arith))
+    omega (arith, c.end_of-end.ensures, end_in start.args.line.now c.before.before.loop-j.from (omega arith))
 
 returns : tie.Need-returns invariant-loop decreases-loop
 returns c =
     let start = c.before.before.before.before.before in
-    let loop = c.before.before.before.loop in
+    let loop = c.before.before.before.loop-j in
     let e : loop.j ≡ start.args.k = omega arith in
-    begins_is start.args.line.now loop.j loop.from c.before.end-of2.result loop.invariant.2 c.before.end-of2.ensures
+    begins_is start.args.line.now loop.j loop.from c.before.end_of-end.result loop.invariant.2 c.before.end_of-end.ensures
     ∙ rw e
 
-pub field-spec : {M : Type 1} → statement M
-field-spec =
+pub field_spec : {M : Type 1} → statement M
+field_spec =
     tie.close (tie.spec invariant-loop decreases-loop loop-holds (λ c κs. search rules) add-from (λ c. search rules) (λ c. search rules) loop-again
     (λ c κs. search rules) sub-result part-result-start part-result-end returns)

@@ -9,24 +9,24 @@ use Rattle.text.specs.Firsts.{line_long, line_other, line-eight}
 use Rattle.text.proofs.heads.first_line.Statement.{statement}
 use Rattle.text.proofs.heads.first_line.Tie as tie
 
-returns : tie.Need-returns
+returns : tie.Need-returns-then-line-gt200
 unfolding first_told
 returns c = ap first_told (sym (line_long c.before.before.args.line.now (omega arith)))
 
-returns-2 : tie.Need-returns-2
+returns-2 : tie.Need-returns-then-field_count-ne8
 unfolding first_told
 returns-2 c =
     let line = c.before.before.before.before.args.line.now in
-    ap first_told (sym (line_other line (omega arith) (λ e. c.if2.true (c.before.field-count.ensures ∙ e))))
+    ap first_told (sym (line_other line (omega arith) (λ e. c.if-field_count-ne8.true (c.before.field_count.ensures ∙ e))))
 
 -- the fields are eight
-eight : (c : tie.Else2) → length (fields_of c.before.before.before.before.args.line.now) ≡ 8
-eight c = sym c.before.field-count.ensures ∙ c.if2.false
+eight : (c : tie.Else-field_count-ne8) → length (fields_of c.before.before.before.before.args.line.now) ≡ 8
+eight c = sym c.before.field_count.ensures ∙ c.if-field_count-ne8.false
 
-returns-3 : tie.Need-returns-3
+returns-3 : tie.Need-returns
 returns-3 c =
     let line = c.before.before.before.before.before.args.line.now in
-    c.head-from.ensures ∙ ap first_told (sym (line-eight line (omega arith) (eight c.before)))
+    c.head_from.ensures ∙ ap first_told (sym (line-eight line (omega arith) (eight c.before)))
 
-pub first-line-spec : {M : Type 1} → statement M
-first-line-spec = tie.close (tie.spec returns (λ c κs. search rules) returns-2 (λ c κs. eight c) returns-3)
+pub first_line_spec : {M : Type 1} → statement M
+first_line_spec = tie.close (tie.spec returns (λ c κs. search rules) returns-2 (λ c κs. eight c) returns-3)

@@ -7,41 +7,41 @@ use Rattle.text.specs.Firsts.{SizesRead, ChoicesRead, sizes_none, choices_none, 
 use Rattle.text.proofs.heads.head_from.Statement.{statement}
 use Rattle.text.proofs.heads.head_from.Tie as tie
 
-returns : tie.Need-returns
+returns : tie.Need-returns-in_default
 unfolding first_told
-returns c = ap first_told (sym (sizes_none _ _ c.before.before.sizes.ensures c.enum_told.given.1))
+returns c = ap first_told (sym (sizes_none _ _ c.before.before.sizes.ensures c.in_default.is))
 
-returns-2 : tie.Need-returns-2
+returns-2 : tie.Need-returns-in_default-choices
 unfolding first_told
-returns-2 c = ap first_told (sym (choices_none _ _ c.before.before.choices.ensures c.enum-told2.given.1))
+returns-2 c = ap first_told (sym (choices_none _ _ c.before.before.choices.ensures c.in_default-choices.is))
 
-returns-3 : tie.Need-returns-3
+returns-3 : tie.Need-returns-in_default-hex_float
 unfolding first_told
 returns-3 c =
-    let float = c.before.before.hex-float.ensures ∙ ap (λ l. real_told (hex_float l)) c.before.before.before.field.ensures in
-    ap first_told (sym (no_threshold _ (real_none _ (sym float ∙ c.enum-told3.given.1))))
+    let float = c.before.before.hex_float.ensures ∙ ap (λ l. real_told (hex_float l)) c.before.before.before.field.ensures in
+    ap first_told (sym (no_threshold _ (real_none _ (sym float ∙ c.in_default-hex_float.is))))
 
 -- where the threshold is read, the choices, the sizes
-abbrev read : tie.After-taken → tie.After-known-told3
+abbrev read : tie.After-taken → tie.In-Is
 read c = c.before.before
 
-abbrev chosen : tie.After-taken → tie.After-known-told2
+abbrev chosen : tie.After-taken → tie.In-Are-choices
 chosen c = (read c).before.before.before.before.before
 
-abbrev sized : tie.After-taken → tie.After-known-told
+abbrev sized : tie.After-taken → tie.In-Are
 sized c = (chosen c).before.before.before.before
 
-returns-4 : tie.Need-returns-4
+returns-4 : tie.Need-returns
 returns-4 c =
     let at = (read c).before.before.before in
-    let float = at.hex-float.ensures ∙ ap (λ l. real_told (hex_float l)) at.before.field.ensures in
-    c.taken.ensures ∙ ap (λ h. first_told (taken h)) c.before.new.ensures ∙ ap first_told (sym (head-is _ _ _ _ _ _ _ _ _
-    (subst (SizesRead _) (sized c).before.dim.given.1 (sized c).before.before.before.sizes.ensures)
-    (subst (ChoicesRead _) (chosen c).before.feature.given.1 (chosen c).before.before.before.choices.ensures)
-    (real_some _ _ (sym float ∙ (read c).before.threshold.given.1))))
+    let float = at.hex_float.ensures ∙ ap (λ l. real_told (hex_float l)) at.before.field.ensures in
+    c.true.ensures ∙ ap (λ h. first_told (taken h)) c.before.new.ensures ∙ ap first_told (sym (head-is _ _ _ _ _ _ _ _ _
+    (subst (SizesRead _) (sized c).before.in-Are.is (sized c).before.before.before.sizes.ensures)
+    (subst (ChoicesRead _) (chosen c).before.in-Are-choices.is (chosen c).before.before.before.choices.ensures)
+    (real_some _ _ (sym float ∙ (read c).before.in-Is.is))))
 
-pub head-from-spec : {M : Type 1} → statement M
-head-from-spec =
+pub head_from_spec : {M : Type 1} → statement M
+head_from_spec =
     tie.close (tie.spec (λ c κs. search rules) (λ c. search rules) (λ c. search rules) returns
     (λ c κs. search rules) (λ c. search rules) (λ c. search rules) returns-2
     (λ c κs. search rules) (λ c κs. search rules) (λ c. search rules) (λ c. search rules) returns-3

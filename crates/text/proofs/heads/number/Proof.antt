@@ -9,5 +9,5 @@ use Rattle.text.proofs.heads.number.Tie as tie
 returns : tie.Need-returns
 returns c = c.decimal.ensures ∙ ap (λ l. number_told (few (decimal l))) c.before.field.ensures
 
-pub number-spec : {M : Type 1} → statement M
-number-spec = tie.close (tie.spec (λ c κs. search rules) (λ c κs. search rules) returns)
+pub number_spec : {M : Type 1} → statement M
+number_spec = tie.close (tie.spec (λ c κs. search rules) (λ c κs. search rules) returns)

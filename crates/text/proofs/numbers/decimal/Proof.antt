@@ -6,22 +6,22 @@ use Rattle.text.specs.Numbers.{decimal-none, decimal-one, decimal_padded, decima
 use Rattle.text.proofs.numbers.decimal.Statement.{statement}
 use Rattle.text.proofs.numbers.decimal.Tie as tie
 
-returns : tie.Need-returns
+returns : tie.Need-returns-then-field-eq0
 unfolding number_told few
-returns c = ap (λ o. number_told (few o)) (sym (decimal-none _ c.if1.true))
+returns c = ap (λ o. number_told (few o)) (sym (decimal-none _ c.if-field-eq0.true))
 
-returns-2 : tie.Need-returns-2
-returns-2 c = c.of-tens.ensures ∙ ap (λ o. number_told (few o)) (sym (decimal-one _ c.before.if2.true))
+returns-2 : tie.Need-returns-then-field-eq1
+returns-2 c = c.of_tens.ensures ∙ ap (λ o. number_told (few o)) (sym (decimal-one _ c.before.if-field-eq1.true))
 
-returns-3 : tie.Need-returns-3
+returns-3 : tie.Need-returns-then-field-eq48
 unfolding number_told few
-returns-3 c = ap (λ o. number_told (few o)) (sym (decimal_padded _ c.before.before.before.if1.false c.before.before.if2.false c.if3.true))
+returns-3 c = ap (λ o. number_told (few o)) (sym (decimal_padded _ c.before.before.before.if-field-eq0.false c.before.before.if-field-eq1.false c.if-field-eq48.true))
 
-returns-4 : tie.Need-returns-4
+returns-4 : tie.Need-returns
 returns-4 c =
-    c.of-tens2.ensures ∙ ap (λ o. number_told (few o)) (sym (decimal_more _ c.before.before.before.before.if1.false
-    c.before.before.before.if2.false c.before.if3.false))
+    c.of_tens-2.ensures ∙ ap (λ o. number_told (few o)) (sym (decimal_more _ c.before.before.before.before.if-field-eq0.false
+    c.before.before.before.if-field-eq1.false c.before.if-field-eq48.false))
 
-pub decimal-spec : {M : Type 1} → statement M
-decimal-spec =
+pub decimal_spec : {M : Type 1} → statement M
+decimal_spec =
     tie.close (tie.spec returns (λ c κs. search rules) returns-2 (λ c. search rules) returns-3 (λ c κs. search rules) returns-4)

@@ -7,23 +7,23 @@ use Rattle.text.specs.Numbers.{real_short, real_none, real_is}
 use Rattle.text.proofs.numbers.hex_float.Statement.{statement}
 use Rattle.text.proofs.numbers.hex_float.Tie as tie
 
-returns : tie.Need-returns
+returns : tie.Need-returns-then-field-ne16
 unfolding real_told
-returns c = ap real_told (sym (real_short _ c.if1.true))
+returns c = ap real_told (sym (real_short _ c.if-field-ne16.true))
 
-returns-2 : tie.Need-returns-2
+returns-2 : tie.Need-returns-in_default
 unfolding real_told
 returns-2 c =
-    let no = number_none _ (sym c.before.before.of-sixteens.ensures ∙ c.enum_told.given.1) in
-    ap real_told (sym (real_none _ no c.before.before.before.if1.false))
+    let no = number_none _ (sym c.before.before.of_sixteens.ensures ∙ c.in_default.is) in
+    ap real_told (sym (real_none _ no c.before.before.before.if-field-ne16.false))
 
-returns-3 : tie.Need-returns-3
+returns-3 : tie.Need-returns
 unfolding real_told
 returns-3 c =
     let at = c.before.before.before.before in
-    let bits = number_some _ _ (sym at.of-sixteens.ensures ∙ c.before.before.n.given.1) in
-    ap R.Is c.of-bits.ensures ∙ ap real_told (sym (real_is _ _ bits at.before.if1.false))
+    let bits = number_some _ _ (sym at.of_sixteens.ensures ∙ c.before.before.n-1.given.1) in
+    ap R.Is c.of_bits.ensures ∙ ap real_told (sym (real_is _ _ bits at.before.if-field-ne16.false))
 
-pub hex-float-spec : {M : Type 1} → statement M
-hex-float-spec =
+pub hex_float_spec : {M : Type 1} → statement M
+hex_float_spec =
     tie.close (tie.spec returns (λ c κs. search rules) (λ c. search rules) (λ c. search rules) returns-2 (λ c κs. search rules) returns-3)

@@ -10,34 +10,34 @@ use Rattle.text.proofs.words.feature_word.Statement.{statement}
 use Rattle.text.proofs.words.feature_word.Tie as tie
 
 -- the field, where k words are not it
-abbrev text1 : tie.Else1 → List ℕ
+abbrev text1 : tie.Else-is → List ℕ
 text1 c = c.before.before.before.before.args.field.now
 
-abbrev text2 : tie.Else2 → List ℕ
+abbrev text2 : tie.Else-is-2 → List ℕ
 text2 c = text1 c.before.before.before
 
 -- the words behind those are left
-not1 : (c : tie.Else1) → feature_word (text1 c) ≡ feature_from 1 (text1 c)
+not1 : (c : tie.Else-is) → feature_word (text1 c) ≡ feature_from 1 (text1 c)
 unfolding feature_word feature_from bytes
-not1 c = word_later 0 "spherical" _ _ (sym c.before.is.ensures ∙ c.if1.false)
+not1 c = word_later 0 "spherical" _ _ (sym c.before.is.ensures ∙ c.if-is.false)
 
-not2 : (c : tie.Else2) → feature_word (text2 c) ≡ feature_from 2 (text2 c)
+not2 : (c : tie.Else-is-2) → feature_word (text2 c) ≡ feature_from 2 (text2 c)
 unfolding feature_word feature_from bytes
-not2 c = not1 c.before.before.before ∙ word_later 1 "diagonal" _ _ (sym c.before.is2.ensures ∙ c.if2.false)
+not2 c = not1 c.before.before.before ∙ word_later 1 "diagonal" _ _ (sym c.before.is-2.ensures ∙ c.if-is-2.false)
 
-returns : tie.Need-returns
+returns : tie.Need-returns-then-is
 unfolding feature_word feature_from bytes word_told
-returns c = ap word_told (sym (word_here 0 "spherical" _ _ (sym c.before.is.ensures ∙ c.if1.true)))
+returns c = ap word_told (sym (word_here 0 "spherical" _ _ (sym c.before.is.ensures ∙ c.if-is.true)))
 
-returns-2 : tie.Need-returns-2
+returns-2 : tie.Need-returns-then-is-2
 unfolding feature_word feature_from bytes word_told
-returns-2 c = ap word_told (sym (not1 c.before.before.before ∙ word_here 1 "diagonal" _ _ (sym c.before.is2.ensures ∙ c.if2.true)))
+returns-2 c = ap word_told (sym (not1 c.before.before.before ∙ word_here 1 "diagonal" _ _ (sym c.before.is-2.ensures ∙ c.if-is-2.true)))
 
-returns-3 : tie.Need-returns-3
+returns-3 : tie.Need-returns
 unfolding feature_from word_told
 returns-3 c = ap word_told (sym (not2 c ∙ word_none 2 _))
 
-pub feature-word-spec : {M : Type 1} → statement M
-feature-word-spec =
+pub feature_word_spec : {M : Type 1} → statement M
+feature_word_spec =
     tie.close (tie.spec (λ c. search rules) (λ c κs. search rules) returns
     (λ c. search rules) (λ c κs. search rules) returns-2 returns-3)

@@ -9,25 +9,25 @@ use Rattle.text.specs.Written.{stored, stored_turn, stored_end, stored-written}
 use Rattle.text.proofs.writing.digits.Statement.{statement}
 use Rattle.text.proofs.writing.digits.Tie as tie
 
-abbrev invariant-loop : tie.invariant-loop
+abbrev invariant-loop : tie.invariant-loop-i
 invariant-loop k base n out₀ at rest₀ i₀ out rest i = (i ≤ k) × (length out ≡ length out₀) × (stored i base rest at out ≡ stored k base n at out₀)
 
-abbrev decreases-loop : tie.decreases-loop
+abbrev decreases-loop : tie.decreases-loop-i
 decreases-loop k base n out₀ at rest₀ i₀ out rest i = i
 
-loop-holds : tie.Need-loop-init invariant-loop decreases-loop
+loop-holds : tie.Need-loop-i-init invariant-loop decreases-loop
 loop-holds c = (search rules, refl, refl)
 
 letter-requires : tie.Need-letter-requires invariant-loop decreases-loop
 letter-requires c κs =
     let start = c.before.before.before in
-    let below : c.before.loop.rest % start.args.base < start.args.base = mod-lt _ (omega arith) in
+    let below : c.before.loop-i.rest % start.args.base < start.args.base = mod-lt _ (omega arith) in
     omega (arith, below)
 
-loop-again : tie.Need-loop-preserved invariant-loop decreases-loop
+loop-again : tie.Need-loop-i-preserved invariant-loop decreases-loop
 loop-again c =
     let start = c.before.before.before.before in
-    let loop = c.before.before.loop in (
+    let loop = c.before.before.loop-i in (
       omega arith,
       simp length-set loop.invariant.1,
       ap (λ b. stored (loop.i - 1) start.args.base (loop.rest / start.args.base) start.args.at
@@ -37,11 +37,11 @@ loop-again c =
 returns : tie.Need-returns invariant-loop decreases-loop
 returns c =
     let start = c.before.before.before in
-    let loop = c.before.loop in
+    let loop = c.before.loop-i in
     sym (stored_end loop.i start.args.base loop.rest start.args.at _ (omega arith)) ∙ loop.invariant.2
     ∙ stored-written start.args.k start.args.base start.args.n start.args.at _ (omega arith)
 
-pub digits-spec : {M : Type 1} → statement M
-digits-spec =
+pub digits_spec : {M : Type 1} → statement M
+digits_spec =
     tie.close (tie.spec invariant-loop decreases-loop loop-holds (λ c. search rules) (λ c. search rules) letter-requires (λ c. search rules) (λ c. search rules)
     (λ c. search rules) (λ c. search rules) loop-again (λ c. search rules) returns)

@@ -8,25 +8,25 @@ use Rattle.text.specs.Written.{places_last, places_more, places_end}
 use Rattle.text.proofs.writing.places.Statement.{statement}
 use Rattle.text.proofs.writing.places.Tie as tie
 
-abbrev invariant-loop : tie.invariant-loop
+abbrev invariant-loop : tie.invariant-loop-k
 invariant-loop n rest₀ k₀ rest k = (k ≤ 20) × (k + places_of (20 - k) rest ≡ places_of 19 n + 1)
 
-abbrev decreases-loop : tie.decreases-loop
+abbrev decreases-loop : tie.decreases-loop-k
 decreases-loop n rest₀ k₀ rest k = 20 - k
 
-loop-holds : tie.Need-loop-init invariant-loop decreases-loop
+loop-holds : tie.Need-loop-k-init invariant-loop decreases-loop
 loop-holds c = (omega arith, omega arith)
 
-returns : tie.Need-returns invariant-loop decreases-loop
-returns c = let loop = c.before.before.loop in omega (arith, places_last loop.k loop.rest (omega arith), loop.invariant.1)
+returns : tie.Need-returns-then-rest-lt10 invariant-loop decreases-loop
+returns c = let loop = c.before.before.loop-k in omega (arith, places_last loop.k loop.rest (omega arith), loop.invariant.1)
 
-loop-again : tie.Need-loop-preserved invariant-loop decreases-loop
+loop-again : tie.Need-loop-k-preserved invariant-loop decreases-loop
 loop-again c =
-    let loop = c.before.before.loop in
+    let loop = c.before.before.loop-k in
     (omega arith, omega (arith, places_more loop.k loop.rest (omega arith) (omega arith), loop.invariant.1))
 
-returns-2 : tie.Need-returns-2 invariant-loop decreases-loop
-returns-2 c = let loop = c.before.loop in omega (arith, places_end loop.k loop.rest (omega arith), loop.invariant.1)
+returns-2 : tie.Need-returns invariant-loop decreases-loop
+returns-2 c = let loop = c.before.loop-k in omega (arith, places_end loop.k loop.rest (omega arith), loop.invariant.1)
 
-pub places-spec : {M : Type 1} → statement M
-places-spec = tie.close (tie.spec invariant-loop decreases-loop loop-holds returns (λ c. search rules) (λ c. search rules) loop-again returns-2)
+pub places_spec : {M : Type 1} → statement M
+places_spec = tie.close (tie.spec invariant-loop decreases-loop loop-holds returns (λ c. search rules) (λ c. search rules) loop-again returns-2)

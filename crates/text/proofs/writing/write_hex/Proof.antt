@@ -17,5 +17,5 @@ returns c =
       ap (λ k. start.args.at + k) (sym (hex_length start.args.x)),
     )
 
-pub write-hex-spec : {M : Type 1} → statement M
-write-hex-spec = tie.close (tie.spec (λ c κs. search rules) (λ c κs. search rules) (λ c. search rules) (λ c. search rules) returns)
+pub write_hex_spec : {M : Type 1} → statement M
+write_hex_spec = tie.close (tie.spec (λ c κs. search rules) (λ c κs. search rules) (λ c. search rules) (λ c. search rules) returns)

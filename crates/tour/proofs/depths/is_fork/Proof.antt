@@ -3,13 +3,13 @@ use Rattle.tour.specs.Walking.{is_fork}
 use Rattle.tour.proofs.depths.is_fork.Statement.{statement}
 use Rattle.tour.proofs.depths.is_fork.Tie as tie
 
-returns : tie.Need-returns
+returns : tie.Need-returns-then-leaf
 unfolding is_fork
-returns c = rw c.if1.true
+returns c = rw c.if-leaf.true
 
-returns-2 : tie.Need-returns-2
+returns-2 : tie.Need-returns-else-leaf
 unfolding is_fork
-returns-2 c = rw c.if1.false
+returns-2 c = rw c.if-leaf.false
 
-pub is-fork-spec : {M : Type 1} → statement M
-is-fork-spec = tie.close (tie.spec returns returns-2)
+pub is_fork_spec : {M : Type 1} → statement M
+is_fork_spec = tie.close (tie.spec returns returns-2)

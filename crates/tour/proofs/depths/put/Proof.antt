@@ -4,13 +4,13 @@ use Rattle.tour.specs.Walking.{put_in}
 use Rattle.tour.proofs.depths.put.Statement.{statement}
 use Rattle.tour.proofs.depths.put.Tie as tie
 
-returns : tie.Need-returns
+returns : tie.Need-returns-then-there
 unfolding put_in
-returns c = rw c.before.if1.true c.add.ensures
+returns c = rw c.before.if-there.true c.add.ensures
 
-returns-2 : tie.Need-returns-2
+returns-2 : tie.Need-returns-else-there
 unfolding put_in
-returns-2 c = rw c.if1.false
+returns-2 c = rw c.if-there.false
 
 pub put_spec : {M : Type 1} → statement M
 put_spec = tie.close (tie.spec (λ c κs. search rules) returns returns-2)

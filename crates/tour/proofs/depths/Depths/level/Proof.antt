@@ -8,44 +8,44 @@ use Rattle.tour.specs.Walking.{level_at, levelled}
 use Rattle.tour.proofs.depths.Depths.level.Statement.{statement}
 use Rattle.tour.proofs.depths.Depths.level.Tie as tie
 
-abbrev invariant-loop : tie.invariant-loop
+abbrev invariant-loop : tie.invariant-loop-d
 invariant-loop self d₀ d = (d ≤ suc self.deepest) × Passed (level_at self) d
 
-abbrev decreases-loop : tie.decreases-loop
+abbrev decreases-loop : tie.decreases-loop-d
 decreases-loop self d₀ d = suc self.deepest - d
 
-returns : tie.Need-returns invariant-loop decreases-loop
+returns : tie.Need-returns-then-self-ge256 invariant-loop decreases-loop
 unfolding levelled
-returns c = rw (le-ltb _ 256 c.if1.true)
+returns c = rw (le-ltb _ 256 c.if-self-ge256.true)
 
-loop-holds : tie.Need-loop-init invariant-loop decreases-loop
+loop-holds : tie.Need-loop-d-init invariant-loop decreases-loop
 loop-holds c = (omega arith, passed_none (level_at c.before.before.args.self))
 
-returns-2 : tie.Need-returns-2 invariant-loop decreases-loop
+returns-2 : tie.Need-returns-then-not-level_at invariant-loop decreases-loop
 unfolding levelled
 returns-2 c =
     let start = c.before.before.before.before.before.before.before in
-    let loop = c.before.before.before.before.loop in
-    rw (lt-ltb _ 256 c.before.before.before.before.before.if1.false)
-    (fails_at (level_at start.args.self) (suc start.args.self.deepest) loop.d (omega (arith, c.before.before.if2.true)) c.before.level-at.ensures
-    (not-true c.before.level-at.result c.if3.true))
+    let loop = c.before.before.before.before.loop-d in
+    rw (lt-ltb _ 256 c.before.before.before.before.before.if-self-ge256.false)
+    (fails_at (level_at start.args.self) (suc start.args.self.deepest) loop.d (omega (arith, c.before.before.loop-d-test.true)) c.before.level_at.ensures
+    (not-true c.before.level_at.result c.if-not-level_at.true-raw))
 
-loop-again : tie.Need-loop-preserved invariant-loop decreases-loop
+loop-again : tie.Need-loop-d-preserved invariant-loop decreases-loop
 loop-again c =
     let start = c.before.before.before.before.before.before.before in
-    let loop = c.before.before.before.before.loop in (
-      omega (arith, c.before.before.if2.true),
-      passed_more (level_at start.args.self) loop.d loop.invariant.1 c.before.level-at.ensures
-          (not-false c.before.level-at.result c.if3.false),
+    let loop = c.before.before.before.before.loop-d in (
+      omega (arith, c.before.before.loop-d-test.true),
+      passed_more (level_at start.args.self) loop.d loop.invariant.1 c.before.level_at.ensures
+          (not-false c.before.level_at.result c.if-not-level_at.false-raw),
     )
 
-returns-3 : tie.Need-returns-3 invariant-loop decreases-loop
+returns-3 : tie.Need-returns invariant-loop decreases-loop
 unfolding levelled
 returns-3 c =
     let start = c.before.before.before.before.before in
-    let loop = c.before.before.loop in
-    rw (lt-ltb _ 256 c.before.before.before.if1.false)
-    (passed_all (level_at start.args.self) (suc start.args.self.deepest) loop.d loop.invariant.1 (omega (arith, c.if2.false)))
+    let loop = c.before.before.loop-d in
+    rw (lt-ltb _ 256 c.before.before.before.if-self-ge256.false)
+    (passed_all (level_at start.args.self) (suc start.args.self.deepest) loop.d loop.invariant.1 (omega (arith, c.loop-d-test.false)))
 
-pub level-spec : {M : Type 1} → statement M
-level-spec = tie.close (tie.spec invariant-loop decreases-loop returns loop-holds (λ c κs. search rules) returns-2 (λ c. search rules) (λ c. search rules) loop-again returns-3)
+pub level_spec : {M : Type 1} → statement M
+level_spec = tie.close (tie.spec invariant-loop decreases-loop returns loop-holds (λ c κs. search rules) returns-2 (λ c. search rules) (λ c. search rules) loop-again returns-3)

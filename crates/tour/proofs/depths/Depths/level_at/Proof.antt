@@ -5,21 +5,21 @@ use Rattle.tour.specs.Walking.{level_at}
 use Rattle.tour.proofs.depths.Depths.level_at.Statement.{statement}
 use Rattle.tour.proofs.depths.Depths.level_at.Tie as tie
 
-returns : tie.Need-returns
+returns : tie.Need-returns-then-not-has
 unfolding level_at
-returns c = rw (← c.before.has.ensures, not-true c.before.has.result c.if1.true)
+returns c = rw (← c.before.has.ensures, not-true c.before.has.result c.if-not-has.true-raw)
 
-returns-2 : tie.Need-returns-2
+returns-2 : tie.Need-returns-then-has
 unfolding level_at
 returns-2 c =
     let has = c.before.before.before.has in
-    rw (← has.ensures, not-false has.result c.before.before.if1.false, ← c.before.has2.ensures, c.if2.true)
+    rw (← has.ensures, not-false has.result c.before.before.if-not-has.false-raw, ← c.before.has-2.ensures, c.if-has.true)
 
-returns-3 : tie.Need-returns-3
+returns-3 : tie.Need-returns
 unfolding level_at
 returns-3 c =
     let has = c.before.before.before.before.has in
-    rw (← has.ensures, not-false has.result c.before.before.before.if1.false, ← c.before.before.has2.ensures, c.before.if2.false, ← c.has3.ensures)
+    rw (← has.ensures, not-false has.result c.before.before.before.if-not-has.false-raw, ← c.before.before.has-2.ensures, c.before.if-has.false, ← c.has-3.ensures)
 
-pub level-at-spec : {M : Type 1} → statement M
-level-at-spec = tie.close (tie.spec (λ c κs. search rules) returns (λ c κs. search rules) returns-2 (λ c κs. search rules) returns-3)
+pub level_at_spec : {M : Type 1} → statement M
+level_at_spec = tie.close (tie.spec (λ c κs. search rules) returns (λ c κs. search rules) returns-2 (λ c κs. search rules) returns-3)

@@ -2,7 +2,7 @@
 use Rattle.std.specs.Prelude.{◌≡◌, ℕ, ◌*◌, ◌<◌, ◌≤◌, Bool, true, false, ◌&&◌, ◌||◌, T, ltb, ◌⊎◌, pos, ◌==◌, ◌≢◌, nat_eq, nat_le, nat_lt, refl, Float}
 use Rattle.std.proofs.Common.{sym, ap, ap₂, ◌∙◌, subst, true≢false, inl, inr, zero-le, le_antisymm, mul-one, mul_comm, mul_assoc, mul_right_comm, mul-pos, le_of_lt, le_of_eq, eq-or-lt_of_le, lt_of_mul-lt-mul_right, mul-lt-mul_of_pos_right, arith, le→leb, leb→le, lt→ltb, ltb→lt, eqb→eq}
 use Rattle.std.proofs.Math.Nat.{eq_of_mul-eq-mul_right}
-use Rattle.std.specs.Float.{fin, binary64}
+use Rattle.std.specs.Float.{nan, inf, fin, binary64}
 use Rattle.std.specs.Float.Ieee.{up, down, lt, le, eq, fits}
 use Rattle.std.specs.Float.Ieee.Fits.{of_int-fits, down_pos, eq→eqb, and_l, and_r}
 use Rattle.std.specs.Float.Ieee.Exact.{HasValue}
@@ -37,6 +37,10 @@ right y b d e q = ap (λ (z : ℕ). z * d) (sym (mul-one y) ∙ q) ∙ mul_assoc
 
 lt_values : (x y : Float) (a b : ℕ) → HasValue x false a 1 → HasValue y false b 1 → lt x y ≡ nat_lt a b
 unfolding lt
+lt_values nan y a b p q = elim p [ ]
+lt_values (inf _) y a b p q = elim p [ ]
+lt_values (fin false m e) nan a b p q = elim q [ ]
+lt_values (fin false m e) (inf _) a b p q = elim q [ ]
 lt_values (fin true m e) y a b p q = absurd (true≢false p.0)
 lt_values (fin false m e) (fin true n d) a b p q = absurd (true≢false q.0)
 lt_values (fin false m e) (fin false n d) a b p q =
@@ -49,6 +53,10 @@ and_true false = refl
 
 eq_values : (x y : Float) (a b : ℕ) → HasValue x false a 1 → HasValue y false b 1 → eq x y ≡ (a == b)
 unfolding eq
+eq_values nan y a b p q = elim p [ ]
+eq_values (inf _) y a b p q = elim p [ ]
+eq_values (fin false m e) nan a b p q = elim q [ ]
+eq_values (fin false m e) (inf _) a b p q = elim q [ ]
 eq_values (fin true m e) y a b p q = absurd (true≢false p.0)
 eq_values (fin false m e) (fin true n d) a b p q = absurd (true≢false q.0)
 eq_values (fin false m e) (fin false n d) a b p q =
@@ -103,6 +111,10 @@ cancel x y n d e h p q =
 
 eq_value : (x y : Float) (n : ℕ) → 0 < n → HasValue x false n 1 → T (eq x y) → HasValue y false n 1
 unfolding eq
+eq_value nan y n h p t = elim p [ ]
+eq_value (inf _) y n h p t = elim p [ ]
+eq_value (fin false m e) nan n h p t = elim t [ ]
+eq_value (fin false m e) (inf _) n h p t = elim t [ ]
 eq_value (fin true m e) y n h p t = absurd (true≢false p.0)
 eq_value (fin false m e) (fin true k d) n h p t =
     absurd (not_both (m * up e * down d) above

@@ -1,7 +1,7 @@
 -- A count of rows as a float: `whole n` is the float of n, and up to 2 ^ 53 it is exactly n, so sums of counts are those of the numbers.
 use Rattle.std.specs.Prelude.{◌≡◌, ℕ, ◌+◌, ◌*◌, ◌^◌, ◌≤◌, true, false, T, pos, refl, Float}
 use Rattle.std.proofs.Common.{sym, ap, ◌∙◌, subst, true≢false, lt_of_le_of_lt, mul-one, mul_comm, mul_assoc, add-mul, mul-pos, zero-lt-suc, le→leb, leb→le, lit≤, lit<}
-use Rattle.std.specs.Float.{fin, binary64}
+use Rattle.std.specs.Float.{nan, inf, fin, binary64}
 use Rattle.std.specs.Float.Ieee.{up, down, add, of_int, of_bits, to_unsigned, in_unsigned, in_float, fits}
 use Rattle.std.specs.Float.Ieee.Fits.{down_pos}
 use Rattle.std.specs.Float.Ieee.Exact.{HasValue}
@@ -45,6 +45,10 @@ cross x y a b d e p q =
 
 sum_values : (x y : Float) (a b : ℕ) → HasValue x false a 1 → HasValue y false b 1 → x ⊕ y ≡ whole (a + b)
 unfolding add of_int
+sum_values nan y a b p q = elim p [ ]
+sum_values (inf _) y a b p q = elim p [ ]
+sum_values (fin false m e) nan a b p q = elim q [ ]
+sum_values (fin false m e) (inf _) a b p q = elim q [ ]
 sum_values (fin true m e) y a b p q = absurd (true≢false p.0)
 sum_values (fin false m e) (fin true n d) a b p q = absurd (true≢false q.0)
 sum_values (fin false m e) (fin false n d) a b p q =

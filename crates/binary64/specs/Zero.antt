@@ -42,6 +42,8 @@ zero-sum A B c b z p e = go (nat_lt A B) (nat_lt B A) (ltb→lt B A) (nltb→le 
 
 past_zero : (y : Float) (b : ℕ) → HasValue y false b 1 → fin true 0 (pos 0) ⊕ y ≡ whole b
 unfolding add of_int
+past_zero nan b q = elim q [ ]
+past_zero (inf _) b q = elim q [ ]
 past_zero (fin true n d) b q = absurd (true≢false q.0)
 past_zero (fin false n d) b q =
     zero-sum (0 * down d) (n * up d * 1) (1 * down d) b (zero-mul (down d)) (mul-pos (zero-lt-suc 0) (down_pos d))

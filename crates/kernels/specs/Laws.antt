@@ -21,6 +21,7 @@ up_to_past f (suc i) l k h = get_or-set_other (up_to f i l) i k (f i) nan (λ e.
 -- below n, the rule
 pub up_to-below : (f : ℕ → Float) (n : ℕ) (l : List Float) (k : ℕ) → n ≤ length l → k < n → at (up_to f n l) k ≡ f k
 unfolding up_to
+up_to-below f zero l k b h = elim h [ ]
 up_to-below f (suc i) l k b h =
     ⊎_elim (λ (e : k ≡ i). rw e (get_or-set_same (up_to f i l) i (f i) nan (rw length-up_to (omega arith))))
     (λ (g : k < i). get_or-set_other (up_to f i l) i k (f i) nan (ne_of_lt g) ∙ up_to-below f i l k (omega arith) g)

@@ -29,6 +29,7 @@ use Rattle.rules.specs.CheckLaws.{passing_of}
 
 every-at : {A : Type 0} (f : A → Bool) (l : List A) (i : ℕ) (d : A) → every f l ≡ true → i < length l → f (get_or l i d) ≡ true
 unfolding every
+every-at {A = A} f [] i d e h = elim h [ ]
 every-at f (x ∷ l) zero d e h = (both (f x) (every f l) e).0
 every-at f (x ∷ l) (suc i) d e h = every-at f l i d (both (f x) (every f l) e).1 (omega arith)
 

@@ -30,6 +30,7 @@ module _ {A : Type 0} where
 
   pub table_at : (f : ℕ → A) (n i : ℕ) (d : A) → i < n → get_or (table f n) i d ≡ f i
   unfolding table snoc
+  table_at f zero i d h = elim h [ ]
   table_at f (suc n) i d h =
       ⊎_elim (λ (e : i ≡ n). rw e (ap (λ k. get_or (table f n ++ (f n ∷ [])) k d) (sym (length-table f n)) ∙ get_or-append_seam (table f n) (f n) [] d))
       (λ (l : i < n). get_or-append (table f n) (f n ∷ []) d i (rw (length-table f n) l) ∙ table_at f n i d l)
@@ -55,6 +56,7 @@ module _ {A : Type 0} where
   -- piece i of the pieces, whatever follows them
   pub piece_at : (w : ℕ) (ls : List (List A)) (rest : List A) (i : ℕ) → EachLong w ls → i < length ls → stretch (concat ls ++ rest) (i * w) w ≡ get_or ls i []
   unfolding concat stretch
+  piece_at w [] rest i e h = elim h [ ]
   piece_at w (l ∷ ls) rest zero e h = rw (zero-mul w, append_assoc l (concat ls) rest) (take_at l (concat ls ++ rest) w e.0)
   piece_at w (l ∷ ls) rest (suc i) e h =
       let past : drop (suc i * w) ((l ++ concat ls) ++ rest) ≡ drop (i * w) (concat ls ++ rest) =
@@ -82,11 +84,13 @@ module _ {A : Type 0} where
 
   pub rows_at : (k n i : ℕ) (l : List A) → i < k → get_or (rows_of k n l) i [] ≡ take n (drop (i * n) l)
   unfolding rows_of
+  rows_at zero n i l h = elim h [ ]
   rows_at (suc k) n zero l h = ap (λ j. take n (drop j l)) (sym (zero-mul n))
   rows_at (suc k) n (suc i) l h =
       let next : n + i * n ≡ suc i * n = sym (suc-mul i n ∙ omega arith) in
       rows_at k n i (drop n l) (omega arith) ∙ ap (take n) (drop-drop (i * n) n l ∙ ap (λ j. drop j l) next)
 
 pub map_at : {A B : Type 0} (f : A → B) (l : List A) (i : ℕ) (d : A) (e : B) → i < length l → get_or (map f l) i e ≡ f (get_or l i d)
+map_at {A = A} {B = B} f [] i d e h = elim h [ ]
 map_at f (x ∷ l) zero d e h = refl
 map_at f (x ∷ l) (suc i) d e h = map_at f l i d e (omega arith)

@@ -18,11 +18,11 @@ returns-3 c = rw c.in-CentroidManhattan.is
 
 returns-4 : tie.Need-returns-then-nb
 unfolding to_summary
-returns-4 c = rw (c.before.before.enum_told-in-AverageIntercluster-1.given.1, c.before.if-na.false, c.if-nb.true)
+returns-4 c = rw (c.before.before.in-AverageIntercluster.is, c.before.if-na.false, c.if-nb.true)
 
 returns-5 : tie.Need-returns-else-nb
 unfolding to_summary
-returns-5 c = rw (c.before.before.enum_told-in-AverageIntercluster-1.given.1, c.before.if-na.false, c.if-nb.false)
+returns-5 c = rw (c.before.before.in-AverageIntercluster.is, c.before.if-na.false, c.if-nb.false)
 
 returns-6 : tie.Need-returns-then-nab
 unfolding to_summary

@@ -24,8 +24,8 @@ loop-again : tie.Need-loop-i-preserved invariant-loop decreases-loop
 loop-again c = (
   omega arith,
   elim c.if-i-n.branch [
-    | then-i-n w ↦ w.1 ∙ rw c.before.before.loop-i.invariant.1 (sym (up_to_turn _ _ _ _ w.if-i-n.true))
-    | else-i-n w ↦ w.1 ∙ c.before.before.loop-i.invariant.1 ∙ sym (up_to_pass _ _ _ _ w.if-i-n.false)
+    | then-i-n w ↦ w.out-is ∙ rw c.before.before.loop-i.invariant.1 (sym (up_to_turn _ _ _ _ w.if-i-n.true))
+    | else-i-n w ↦ w.out-is ∙ c.before.before.loop-i.invariant.1 ∙ sym (up_to_pass _ _ _ _ w.if-i-n.false)
   ],
 )
 

@@ -6,7 +6,7 @@ use Rattle.feature.proofs.deviate.Tie as tie
 
 returns : tie.Need-returns-in-Spherical
 unfolding deviated
-returns c = rw (c.before.before.enum_told-1.given.1, c.sq_euclidean-sum.ensures)
+returns c = rw (c.before.before.in-Spherical.is, c.sq_euclidean-sum.ensures)
 
 returns-2 : tie.Need-returns-in-Diagonal
 unfolding deviated

@@ -24,8 +24,8 @@ loop-again : tie.Need-loop-i-preserved invariant-loop decreases-loop
 loop-again c = (
   omega arith,
   elim c.if-i-dim.branch [
-    | then-i-dim w ↦ w.2 ∙ rw c.before.before.loop-i.invariant.1 (sym (up_to_turn _ _ _ _ w.if-i-dim.true))
-    | else-i-dim w ↦ w.1 ∙ c.before.before.loop-i.invariant.1 ∙ sym (up_to_pass _ _ _ _ w.if-i-dim.false)
+    | then-i-dim w ↦ w.out-is ∙ rw c.before.before.loop-i.invariant.1 (sym (up_to_turn _ _ _ _ w.if-i-dim.true))
+    | else-i-dim w ↦ w.out-is ∙ c.before.before.loop-i.invariant.1 ∙ sym (up_to_pass _ _ _ _ w.if-i-dim.false)
   ],
 )
 

@@ -103,20 +103,20 @@ returns c =
     let a = start.args in
     let begin = c.before.before.before.before.begin in (
       more start begin.ensures.0,
-      placed_nothing a.s a.row.now a.leaf (tree start) (found near) new.before.before.before.enum_told-1.given.1
+      placed_nothing a.s a.row.now a.leaf (tree start) (found near) new.before.before.before.in_default.is
           (row-begun start new.alone.ensures begin.ensures.1),
     )
 
 absorbs-requires : tie.Need-absorbs-requires
 absorbs-requires c κs =
     let near = c.before.before.before.before in
-    ((start near).requires.floats.0, there near c.before.before.near-1.given.1, (start near).requires.floats.2)
+    ((start near).requires.floats.0, there near c.before.before.in-Entry.is, (start near).requires.floats.2)
 
 push-requires : tie.Need-push-requires
 push-requires c κs =
     let tested = c.before.before in
     let near = some tested in
-    ((start near).requires.floats.0, there near tested.before.before.before.near-1.given.1, (start near).requires.floats.2)
+    ((start near).requires.floats.0, there near tested.before.before.before.in-Entry.is, (start near).requires.floats.2)
 
 returns-2 : tie.Need-returns-then-absorbs
 returns-2 c =
@@ -126,7 +126,7 @@ returns-2 c =
     let start = start near in
     let a = start.args in (
       (start.requires.floats.0, start.requires.floats.1),
-      placed-absorbed a.s a.row.now a.leaf (tree start) (found near) tested.before.before.before.near-1.given.1
+      placed-absorbed a.s a.row.now a.leaf (tree start) (found near) tested.before.before.before.in-Entry.is
           (tested.absorbs.ensures a.links.now) pushed.before.before.if-absorbs.true (pushed.push.ensures a.links.now),
     )
 
@@ -147,7 +147,7 @@ returns-3 c =
     let a = start.args in
     let begin = c.before.before.before.before.begin-2 in (
       more start begin.ensures.0,
-      placed-begun a.s a.row.now a.leaf (tree start) (found near) tested.before.before.before.near-1.given.1
+      placed-begun a.s a.row.now a.leaf (tree start) (found near) tested.before.before.before.in-Entry.is
           (tested.absorbs.ensures a.links.now) new.before.before.before.if-absorbs.false (row-begun start new.alone-2.ensures begin.ensures.1),
     )
 

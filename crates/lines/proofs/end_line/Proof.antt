@@ -11,7 +11,7 @@ read-first-requires c κs =
     let a = start.args in (
       start.requires.room.floats_room,
       start.requires.room.links_room,
-      stage_stands a.run Stages.First c.before.before.before.enum_told-1.given.1 a.floats.now a.links.now start.requires.reading.stands,
+      stage_stands a.run Stages.First c.before.before.before.in-First.is a.floats.now a.links.now start.requires.reading.stands,
     )
 
 read-row-requires : tie.Need-read_row-requires
@@ -40,7 +40,7 @@ returns-2 c =
 returns-3 : tie.Need-returns-in-Bad
 returns-3 c =
     let start = c.before.before.before.before.before.before.before.before.before in
-    let a = start.args in still_bad a.run _ c.bad.ensures _ a.floats.now a.links.now c.before.before.stage-1.given.1
+    let a = start.args in still_bad a.run _ c.bad.ensures _ a.floats.now a.links.now c.before.before.in-Bad.is
 
 pub end_line_spec : {M : Type 1} → statement M
 end_line_spec =

@@ -22,7 +22,7 @@ returns c =
     let row_Line = c.before.before.before.before.before in
     let start = row_Line.before.before.before.before.before.before.before.before in
     let a = start.args in
-    malformed_read a.run a.bytes.now a.floats.now a.links.now _ _ row_Line.row_line.ensures c.before.before.enum_told-in_default-1.given.1
+    malformed_read a.run a.bytes.now a.floats.now a.links.now _ _ row_Line.row_line.ensures c.before.before.in_default.is
     _ c.bad.ensures
 
 part-insert-end : tie.Need-slice_bounds-insert-end

@@ -15,7 +15,7 @@ returns-2 c = rw (c.only-in-Room.ensures, c.before.before.before.number-number.e
 
 returns-3 : tie.Need-returns-in-Tree
 unfolding refusal_numbers values_of number_of
-returns-3 c = rw (c.with_values.ensures, c.before.wide32.ensures, c.before.before.before.before.before.number-number.ensures, c.before.before.before.r-1.given.1)
+returns-3 c = rw (c.with_values.ensures, c.before.wide32.ensures, c.before.before.before.before.before.number-number.ensures, c.before.before.before.in-Tree.is)
 
 returns-4 : tie.Need-returns-in-Shape
 unfolding refusal_numbers values_of number_of

@@ -14,13 +14,13 @@ returns c =
     made_refused a.h a.floats.now a.links.now (create_refusals a.h a.floats.now a.links.now) c.before.before.create-answer.ensures c.in_default.is
 
 create-requires-2 : tie.Need-create-head-requires
-create-requires-2 c κs = create_grants _ _ _ (sym c.before.before.before.before.create-answer.ensures ∙ c.before.before.enum_told-1.given.1)
+create-requires-2 c κs = create_grants _ _ _ (sym c.before.before.before.before.create-answer.ensures ∙ c.before.before.in-Accepted.is)
 
 returns-2 : tie.Need-returns
 unfolding created
 returns-2 c =
     let a = c.before.before.before.before.before.before.before.before.before.before.before.before.before.before.args in
-    made-done a.h a.floats.now a.links.now (create_refusals a.h a.floats.now a.links.now) c.before.before.before.before.before.before.before.before.before.create-answer.ensures c.before.before.before.before.before.before.before.enum_told-1.given.1
+    made-done a.h a.floats.now a.links.now (create_refusals a.h a.floats.now a.links.now) c.before.before.before.before.before.before.before.before.before.create-answer.ensures c.before.before.before.before.before.before.before.in-Accepted.is
     c.before.before.before.before.create-head.ensures
 
 pub create_spec : {M : Type 1} → statement M

@@ -43,7 +43,7 @@ returns-2 c =
     let h = start.args.h in
     let x = start.args.row.now in
     let a = row_taken h (lent start) x (accepts (c.before.before.before.before.before.before.before.before.before.before.before.before.before)) in
-    done_as_ruled h (lent start) (row_refusals h (lent start) x) c.before.before.before.before.before.before.before.before.before.before.before.before.before.before.before.row-answer.ensures _ c.before.before.before.before.before.before.before.before.before.before.before.before.before.enum_told-1.given.1
+    done_as_ruled h (lent start) (row_refusals h (lent start) x) c.before.before.before.before.before.before.before.before.before.before.before.before.before.before.before.row-answer.ensures _ c.before.before.before.before.before.before.before.before.before.before.before.before.before.in-Accepted.is
     (c.before.before.before.before.before.before.before.before.change-head.ensures ∙ ap (changed h (lent start)) (one_row (settings_of h) x (lent_tree h start.args.floats.now start.args.links.now) a.shape))
 
 pub insert_row_spec : {M : Type 1} → statement M

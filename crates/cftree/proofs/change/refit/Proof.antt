@@ -46,7 +46,7 @@ unfolding batch_refitted settings_of worked
 returns-2 c =
     let start = start (c.before.before.before.before.before.before.before.before.before.before.before.before.before.before) in
     let h = start.args.h in
-    done_as_ruled h (lent start) (refit_refusals h (lent start) start.args.rows.now) c.before.before.before.before.before.before.before.before.before.before.before.before.before.before.before.before.refit-answer.ensures _ c.before.before.before.before.before.before.before.before.before.before.before.before.before.before.enum_told-1.given.1 c.before.before.before.before.before.before.before.before.change-head.ensures
+    done_as_ruled h (lent start) (refit_refusals h (lent start) start.args.rows.now) c.before.before.before.before.before.before.before.before.before.before.before.before.before.before.before.before.refit-answer.ensures _ c.before.before.before.before.before.before.before.before.before.before.before.before.before.before.in-Accepted.is c.before.before.before.before.before.before.before.before.change-head.ensures
 
 pub refit_spec : {M : Type 1} → statement M
 refit_spec = tie.close (tie.spec (λ c κs. search rules) (λ c. search rules) (λ c. search rules) (λ c. search rules) (λ c. search rules) (λ c. search rules) (λ c. search rules) returns div-change change-requires (λ c. search rules) (λ c. search rules) (λ c. search rules) (λ c. search rules) returns-2)

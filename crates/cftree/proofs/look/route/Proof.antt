@@ -40,7 +40,7 @@ returns-2 : tie.Need-returns
 unfolding routed lent_tree
 returns-2 c =
     let a = c.before.before.before.before.before.before.before.before.before.before.before.before.before.before.args in
-    front_written (route_refusals a.h a.floats.now a.links.now a.rows.now a.out.now) c.before.before.before.before.before.before.before.before.route-answer.ensures _ _ c.before.before.before.before.before.before.enum_told-1.given.1
+    front_written (route_refusals a.h a.floats.now a.links.now a.rows.now a.out.now) c.before.before.before.before.before.before.before.before.route-answer.ensures _ _ c.before.before.before.before.before.before.in-Accepted.is
     (rw c.before.before.before.before.before.settings-s.ensures at c.before.before.write_routes.ensures)
 
 pub route_spec : {M : Type 1} → statement M

@@ -16,14 +16,14 @@ returns c =
 write-spread-requires : tie.Need-write_spread-requires
 write-spread-requires c κs =
     let a = c.before.before.before.before.before.before.before.before.before.args in
-    let g = spread_seen a.h a.floats.now a.links.now a.out.now (sym c.before.before.before.before.spread-answer.ensures ∙ c.before.before.enum_told-1.given.1) in
+    let g = spread_seen a.h a.floats.now a.links.now a.out.now (sym c.before.before.before.before.spread-answer.ensures ∙ c.before.before.in-Accepted.is) in
     rw c.before.settings.ensures (g.0.floats_in_lem, g.1)
 
 returns-2 : tie.Need-returns
 unfolding spread_written lent_tree
 returns-2 c =
     let a = c.before.before.before.before.before.before.before.before.before.before.before.before.args in
-    front_written (spread_refusals a.h a.floats.now a.links.now a.out.now) c.before.before.before.before.before.before.before.spread-answer.ensures _ _ c.before.before.before.before.before.enum_told-1.given.1
+    front_written (spread_refusals a.h a.floats.now a.links.now a.out.now) c.before.before.before.before.before.before.before.spread-answer.ensures _ _ c.before.before.before.before.before.in-Accepted.is
     (rw c.before.before.before.before.settings.ensures at (c.before.before.write_spread.ensures a.links.now))
 
 pub spread_spec : {M : Type 1} → statement M

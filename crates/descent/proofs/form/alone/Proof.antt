@@ -18,7 +18,7 @@ load-requires c κs =
 
 returns : tie.Need-returns-in-Row
 unfolding item_of
-returns c = c.push.ensures ∙ rw (c.before.empty.ensures, c.before.before.enum_told-1.given.1)
+returns c = c.push.ensures ∙ rw (c.before.empty.ensures, c.before.before.in-Row.is)
 
 returns-2 : tie.Need-returns-in-Slot
 unfolding item_of

@@ -23,13 +23,13 @@ merge-requires c κs =
 
 returns : tie.Need-returns-in-Row
 unfolding item_of
-returns c = λ ls. c.before.before.push.ensures ls ∙ rw c.before.before.before.before.enum_told-1.given.1
+returns c = λ ls. c.before.before.push.ensures ls ∙ rw c.before.before.before.before.in-Row.is
 
 returns-2 : tie.Need-returns-in-Slot
 unfolding item_of
 returns-2 c =
     λ ls. c.before.before.merge.ensures ls
-    ∙ rw (c.before.before.before.load.ensures, c.before.before.before.before.before.enum_told-in-Slot-1.given.1)
+    ∙ rw (c.before.before.before.load.ensures, c.before.before.before.before.before.in-Slot.is)
 
 pub feed_spec : {M : Type 1} → statement M
 feed_spec =

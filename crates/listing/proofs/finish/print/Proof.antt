@@ -17,7 +17,7 @@ write-report-requires : tie.Need-write_report-requires
 write-report-requires c κs =
     let start = c.before.before.before.before.before.before.before in
     let a = start.args in (
-      reportable (rows_stand a.run a.floats.now a.links.now c.before.before.enum_told-in-Rows-1.given.1 start.requires.2) start.requires.0,
+      reportable (rows_stand a.run a.floats.now a.links.now c.before.before.in-Rows.is start.requires.2) start.requires.0,
       start.requires.1,
     )
 

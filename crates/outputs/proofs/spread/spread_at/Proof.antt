@@ -21,7 +21,7 @@ element-copy-out-result-2 c = let few = c.before.before.requires.0.dim_few in le
 returns : tie.Need-returns-in-Spherical
 returns c =
     let start = c.before.before.before.before in
-    spherical-at _ _ start.requires.0.dim_few _ start.requires.1 _ c.before.before.enum_told-1.given.1 start.requires.2
+    spherical-at _ _ start.requires.0.dim_few _ start.requires.1 _ c.before.before.in-Spherical.is start.requires.2
 
 returns-2 : tie.Need-returns-in-Diagonal
 returns-2 c =

@@ -22,7 +22,7 @@ put-requires c κs =
       (
         start.requires.1,
         named_inside 4294967296 (partner_of start.args.p) _ _
-            (partner_named start.args.p _ _ c.before.before.before.p-1.given.1) start.requires.2,
+            (partner_named start.args.p _ _ c.before.before.before.in-Named.is) start.requires.2,
       ),
     )
 

@@ -21,7 +21,7 @@ returns-2 : tie.Need-returns
 unfolding tree_refusals lent_tree
 returns-2 c =
     let f = rw c.before.settings.ensures at c.tree_check.ensures in
-    f ∙ answer_then _ _ (sym c.before.before.before.before.create-a.ensures ∙ c.before.before.enum_told-1.given.1)
+    f ∙ answer_then _ _ (sym c.before.before.before.before.create-a.ensures ∙ c.before.before.in-Accepted.is)
 
 pub look_spec : {M : Type 1} → statement M
 look_spec = tie.close (tie.spec (λ c κs. search rules) (λ c. search rules) (λ c. search rules) returns (λ c κs. search rules) tree-check-requires returns-2)

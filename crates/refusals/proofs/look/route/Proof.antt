@@ -43,7 +43,7 @@ unfolding settings_of lent_tree route_refusals route_asked
 returns-3 c =
     let a = c.before.before.before.before.before.before.before.before.before.before.before.before.args in
     c.routes.ensures (tree_of (settings_of a.h) a.h.counters a.floats.now a.links.now) (count_entries_lem (settings_of a.h) a.h.counters a.floats.now a.links.now)
-    ∙ answer_then _ _ (sym c.before.before.before.before.shape-b.ensures ∙ c.before.before.enum_told-in-Accepted-b-1.given.1) ∙ answer_then _ _ (accepts (c.before.before.before.before.before))
+    ∙ answer_then _ _ (sym c.before.before.before.before.shape-b.ensures ∙ c.before.before.in-Accepted-b.is) ∙ answer_then _ _ (accepts (c.before.before.before.before.before))
 
 pub route_spec : {M : Type 1} → statement M
 route_spec = tie.close (tie.spec (λ c κs. search rules) (λ c. search rules) (λ c. search rules) returns shape-requires (λ c. search rules) (λ c. search rules) returns-2 div-routes (λ c κs. search rules) returns-3)

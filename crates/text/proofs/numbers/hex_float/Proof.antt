@@ -21,7 +21,7 @@ returns-3 : tie.Need-returns
 unfolding real_told
 returns-3 c =
     let at = c.before.before.before.before in
-    let bits = number_some _ _ (sym at.of_sixteens.ensures ∙ c.before.before.n-1.given.1) in
+    let bits = number_some _ _ (sym at.of_sixteens.ensures ∙ c.before.before.in-Is.is) in
     ap R.Is c.of_bits.ensures ∙ ap real_told (sym (real_is _ _ bits at.before.if-field-ne16.false))
 
 pub hex_float_spec : {M : Type 1} → statement M

@@ -24,7 +24,7 @@ turn c = c.before.before.before.before.before.before.before
 -- the digit at i
 is : (c : tie.After-wide invariant-loop decreases-loop) → hex_digit (get_or (turn c).before.before.args.field.now (turn c).loop-i.i 0) ≡ some c.wide.result
 is c =
-    digit-some _ _ (sym c.before.before.before.before.hex_digit.ensures ∙ c.before.before.d-1.given.1) ∙ ap some (sym c.wide.ensures)
+    digit-some _ _ (sym c.before.before.before.before.hex_digit.ensures ∙ c.before.before.in-Is.is) ∙ ap some (sym c.wide.ensures)
 
 loop-holds : tie.Need-loop-i-init invariant-loop decreases-loop
 unfolding sixteens

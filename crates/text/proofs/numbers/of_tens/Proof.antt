@@ -27,7 +27,7 @@ text c = (turn c).before.before.args.field.now
 
 -- the digit at i
 is : (c : tie.After-wide invariant-loop decreases-loop) → digit (get_or (text c) (turn c).loop-i.i 0) ≡ some c.wide.result
-is c = digit-some _ _ (sym c.before.before.before.before.digit.ensures ∙ c.before.before.d-1.given.1) ∙ ap some (sym c.wide.ensures)
+is c = digit-some _ _ (sym c.before.before.before.before.digit.ensures ∙ c.before.before.in-Is.is) ∙ ap some (sym c.wide.ensures)
 
 more : (c : tie.After-wide invariant-loop decreases-loop)
     → number_from digit 10 ((turn c).loop-i.n * 10 + c.wide.result) (drop ((turn c).loop-i.i + 1) (text c)) ≡ number_from digit 10 0 (text c)

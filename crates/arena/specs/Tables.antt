@@ -35,6 +35,7 @@ module _ {A : Type 0} where
   pub table-change : (k : A → A) (f g : ℕ → A) (n i : ℕ) → i < n → g i ≡ k (f i) → ((j : ℕ) → j < n → ¬ (j ≡ i) → g j ≡ f j)
       → table g n ≡ change_at k i (table f n)
   unfolding table snoc
+  table-change k f g zero i h e o = elim h [ ]
   table-change k f g (suc n) i h e o =
       ⊎_elim (λ (z : i ≡ n).
       let front : table g n ≡ table f n = table_same g f n (λ j l. o j (omega arith) (λ y. omega arith)) in

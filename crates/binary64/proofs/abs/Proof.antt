@@ -57,15 +57,15 @@ rest (fin true m e) h k = absurd (small (m * up e * 1) (0 * down e) (ltb-false 0
 
 returns : tie.Need-returns-then-x
 unfolding of_bits
-returns c = negative c.before.args.x c.if-x.true
+returns c = negative c.args.x c.if-x.true
 
 returns-2 : tie.Need-returns-then-x-2
 unfolding of_bits
-returns-2 c = nothing c.before.before.args.x c.if-x-2.true (passes (fits binary64 c.before.before.args.x) c.before.before.well_formed.0.1)
+returns-2 c = nothing c.args.x c.if-x-2.true (passes (fits binary64 c.args.x) c.well_formed.0.1)
 
 returns-3 : tie.Need-returns
 unfolding of_bits
-returns-3 c = rest c.before.before.args.x c.before.if-x.false c.if-x-2.false
+returns-3 c = rest c.args.x c.if-x.false c.if-x-2.false
 
 pub abs_spec : {M : Type 1} → statement M
 abs_spec = tie.close (tie.spec returns returns-2 returns-3)

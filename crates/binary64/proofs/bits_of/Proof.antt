@@ -10,10 +10,10 @@ unfolding to_bits
 nan-bits = refl
 
 float-to-bits-result : tie.Need-float_to_bits-result
-float-to-bits-result c = subst (λ (b : Bool). T (not b)) (sym c.if-x.false ∙ differs c.before.args.x) tt
+float-to-bits-result c = subst (λ (b : Bool). T (not b)) (sym c.if-x.false ∙ differs c.args.x) tt
 
 returns : tie.Need-returns-then-x
-returns c = nan-bits ∙ ap (to_bits binary64) (sym (nan_is c.before.args.x (sym (differs c.before.args.x) ∙ c.if-x.true)))
+returns c = nan-bits ∙ ap (to_bits binary64) (sym (nan_is c.args.x (sym (differs c.args.x) ∙ c.if-x.true)))
 
 pub bits_of_spec : {M : Type 1} → statement M
 bits_of_spec = tie.close (tie.spec float-to-bits-result returns (λ c. search rules))

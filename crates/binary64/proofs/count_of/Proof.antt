@@ -10,8 +10,8 @@ use Rattle.binary64.proofs.count_of.Tie as tie
 abbrev tests : tie.After-row_known-1 → tie.Then-w-2
 tests c = c.before.before
 
-inside : (c : tie.Then-w-2) → Ranged c.before.before.args.w
-inside c = ranged c.before.before.args.w c.before.if-w.true c.if-w-2.true
+inside : (c : tie.Then-w-2) → Ranged c.args.w
+inside c = ranged c.args.w c.if-w.true c.if-w-2.true
 
 truncating-f64-to-u64-requires : tie.Need-truncating_f64_to_u64-n-requires
 truncating-f64-to-u64-requires c κs = ((inside c).above, (inside c).below)
@@ -19,22 +19,22 @@ truncating-f64-to-u64-requires c κs = ((inside c).above, (inside c).below)
 int-to-float-if3 : tie.Need-int_to_float-n
 unfolding in_float
 int-to-float-if3 c =
-    let n = c.before.truncating_f64_to_u64-n.result in
-    le→leb n most (subst (λ (k : ℕ). k ≤ most) (sym c.before.truncating_f64_to_u64-n.ensures) (inside (tests c)).few)
+    let n = c.truncating_f64_to_u64-n.result in
+    le→leb n most (subst (λ (k : ℕ). k ≤ most) (sym c.truncating_f64_to_u64-n.ensures) (inside (tests c)).few)
 
 returns : tie.Need-returns-then-n-w
 unfolding count_of is_count told
 returns c =
-    rw ((tests c.before).before.if-w.true, (tests c.before).if-w-2.true, ← c.before.before.truncating_f64_to_u64-n.ensures, c.if-n-w.true)
+    rw ((tests c.before).if-w.true, (tests c.before).if-w-2.true, ← c.truncating_f64_to_u64-n.ensures, c.if-n-w.true)
 
 returns-2 : tie.Need-returns-else-n-w
 unfolding count_of is_count told
 returns-2 c =
-    rw ((tests c.before).before.if-w.true, (tests c.before).if-w-2.true, ← c.before.before.truncating_f64_to_u64-n.ensures, c.if-n-w.false)
+    rw ((tests c.before).if-w.true, (tests c.before).if-w-2.true, ← c.truncating_f64_to_u64-n.ensures, c.if-n-w.false)
 
 returns-3 : tie.Need-returns-else-w-2
 unfolding count_of is_count told
-returns-3 c = rw (c.before.if-w.true, c.if-w-2.false)
+returns-3 c = rw (c.if-w.true, c.if-w-2.false)
 
 returns-4 : tie.Need-returns-else-w
 unfolding count_of is_count told

@@ -21,11 +21,11 @@ upper (fin s m e) h = absurd (true≢false h)
 
 returns : tie.Need-returns-then-x-top
 unfolding of_bits div neg
-returns c = lower c.before.args.x c.if-x-top.true
+returns c = lower c.args.x c.if-x-top.true
 
 returns-2 : tie.Need-returns-else-x-top
 unfolding of_bits div
-returns-2 c = upper c.before.args.x c.if-x-top.false
+returns-2 c = upper c.args.x c.if-x-top.false
 
 pub is_finite_spec : {M : Type 1} → statement M
 is_finite_spec = tie.close (tie.spec returns returns-2)

@@ -12,12 +12,12 @@ nan-made = refl
 
 float-from-bits-result : tie.Need-float_from_bits-result
 float-from-bits-result c =
-    let b = c.before.args.b in
+    let b = c.args.b in
     subst (λ (t : Bool). T (not t)) (sym (nan_bits_above binary64 b ∙ le-ltb 0x7ff0_0000_0000_0000 (b % 0x8000_0000_0000_0000) c.if-b-gt9218868437227405312.false)) tt
 
 returns : tie.Need-returns-then-b-gt9218868437227405312
 returns c =
-    let b = c.before.args.b in
+    let b = c.args.b in
     let e = lt-ltb 0x7ff0_0000_0000_0000 (b % 0x8000_0000_0000_0000) c.if-b-gt9218868437227405312.true in
     nan-made ∙ sym (nan_is (of_bits binary64 b) (sym (nan_bits_is binary64 b) ∙ nan_bits_above binary64 b ∙ e))
 

@@ -7,10 +7,10 @@ use Rattle.binary64.proofs.rank.Tie as tie
 
 returns : tie.Need-returns-then-x
 unfolding div of_bits
-returns c = ap ranked (sym (nan_is c.before.args.x (sym (differs c.before.args.x) ∙ c.if-x.true)))
+returns c = ap ranked (sym (nan_is c.args.x (sym (differs c.args.x) ∙ c.if-x.true)))
 
 returns-2 : tie.Need-returns-else-x
-returns-2 c = sym (ranked_other c.before.args.x (sym (differs c.before.args.x) ∙ c.if-x.false))
+returns-2 c = sym (ranked_other c.args.x (sym (differs c.args.x) ∙ c.if-x.false))
 
 pub rank_spec : {M : Type 1} → statement M
 rank_spec = tie.close (tie.spec returns returns-2)

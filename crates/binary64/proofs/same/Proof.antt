@@ -6,7 +6,7 @@ use Rattle.binary64.proofs.same.Tie as tie
 
 returns : tie.Need-returns
 unfolding same_value
-returns c = rw (c.before.bits_of.ensures, c.bits_of-2.ensures)
+returns c = rw (c.bits_of.ensures, c.bits_of-2.ensures)
 
 pub same_spec : {M : Type 1} → statement M
 same_spec = tie.close (tie.spec (λ c κs. search rules) (λ c κs. search rules) returns)

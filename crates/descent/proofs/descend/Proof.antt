@@ -12,7 +12,7 @@ go-down-requires c κs =
 
 returns : tie.Need-returns
 returns c =
-    let a = c.before.before.before.before.before.before.before.args in
+    let a = c.args in
     rw (whole a.floats.now, whole a.links.now, whole a.x.now) at c.go_down.ensures
 
 pub descend_spec : {M : Type 1} → statement M

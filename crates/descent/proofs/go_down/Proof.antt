@@ -25,43 +25,43 @@ abbrev turn : tie.After-is_leaf invariant-loop decreases-loop → tie.Start inva
 turn c = c.before.before.before.before.before.before
 
 loop-holds : tie.Need-loop-left-init invariant-loop decreases-loop
-loop-holds c = let start = c.before.before.before in (root_there _ _ _ _ start.requires.sure, down_start _ _ _ _ _)
+loop-holds c = let start = c.before.before.before in (root_there _ _ _ _ start.requires.1, down_start _ _ _ _ _)
 
 is-leaf-requires : tie.Need-is_leaf-requires invariant-loop decreases-loop
-is-leaf-requires c κs = (c.before.before.before.before.before.requires.floats.1, c.before.loop-left.invariant.0)
+is-leaf-requires c κs = (c.requires.0.1, c.loop-left.invariant.0)
 
 returns : tie.Need-returns-then-is_leaf invariant-loop decreases-loop
 returns c =
-    let loop = c.before.before.before.loop-left in
-    (sym (down_leaf _ _ loop.left loop.i (sym (c.before.is_leaf.ensures _) ∙ c.if-is_leaf.true)) ∙ loop.invariant.1, loop.invariant.0)
+    let loop = c.loop-left in
+    (sym (down_leaf _ _ loop.left loop.i (sym (c.is_leaf.ensures _) ∙ c.if-is_leaf.true)) ∙ loop.invariant.1, loop.invariant.0)
 
 list-requires : tie.Need-list-requires invariant-loop decreases-loop
-list-requires c κs = ((turn c.before).requires.floats.1, c.before.before.before.loop-left.invariant.0)
+list-requires c κs = ((turn c.before).requires.0.1, c.loop-left.invariant.0)
 
 nearest-child-requires : tie.Need-nearest_child-i-requires invariant-loop decreases-loop
 nearest-child-requires c κs =
     let start = turn c.before.before in
-    let here = c.before.before.before.before.loop-left.invariant.0 in
-    let inner = sym (c.before.before.is_leaf.ensures start.args.floats.now) ∙ c.before.if-is_leaf.false in
+    let here = c.loop-left.invariant.0 in
+    let inner = sym (c.is_leaf.ensures start.args.floats.now) ∙ c.if-is_leaf.false in
     let list = c.list.ensures start.args.floats.now in (
-      start.requires.floats.0,
-      start.requires.floats.2,
-      rw list (list_filled _ _ _ _ start.requires.sure _ here inner),
-      rw list (children_in _ _ _ _ start.requires.sure _ here false inner),
+      start.requires.0.0,
+      start.requires.0.2,
+      rw list (list_filled _ _ _ _ start.requires.1 _ here inner),
+      rw list (children_in _ _ _ _ start.requires.1 _ here false inner),
     )
 
 loop-again : tie.Need-loop-left-preserved invariant-loop decreases-loop
 loop-again c =
     let start = turn c.before.before.before in
     let a = start.args in
-    let loop = c.before.before.before.before.before.loop-left in
+    let loop = c.loop-left in
     let f = node_distance a.s a.form a.x.now (tree_of a.s a.n a.floats.now a.links.now) in
-    let near = c.nearest_child-i.ensures.any_links a.links.now ∙ ap (closest f) (c.before.list.ensures a.floats.now) in
-    let inner = sym (c.before.before.before.is_leaf.ensures a.floats.now) ∙ c.before.before.if-is_leaf.false in
+    let near = c.nearest_child-i.ensures.any_links a.links.now ∙ ap (closest f) (c.list.ensures a.floats.now) in
+    let inner = sym (c.is_leaf.ensures a.floats.now) ∙ c.if-is_leaf.false in
     (c.nearest_child-i.ensures.upper_bound, down_on _ _ loop.left loop.i (omega arith) inner near ∙ loop.invariant.1)
 
 returns-2 : tie.Need-returns invariant-loop decreases-loop
-returns-2 c = let loop = c.before.loop-left in (sym (down_end _ _ loop.left loop.i (omega arith)) ∙ loop.invariant.1, loop.invariant.0)
+returns-2 c = let loop = c.loop-left in (sym (down_end _ _ loop.left loop.i (omega arith)) ∙ loop.invariant.1, loop.invariant.0)
 
 pub go_down_spec : {M : Type 1} → statement M
 go_down_spec =

@@ -29,11 +29,11 @@ rest Radius n a b h = refl
 
 returns : tie.Need-returns-in-CentroidManhattan
 unfolding gap_of
-returns c = rw (c.before.in-CentroidManhattan.is, c.manhattan.ensures)
+returns c = rw (c.in-CentroidManhattan.is, c.manhattan.ensures)
 
 returns-2 : tie.Need-returns-in_default
 unfolding squared_gap
-returns-2 c = c.sq_euclidean.ensures ∙ rest _ _ _ _ c.before.in_default.in_default-own.keys2
+returns-2 c = c.sq_euclidean.ensures ∙ rest _ _ _ _ c.in_default.in_default-own.keys2
 
 pub gap_spec : {M : Type 1} → statement M
 gap_spec = tie.close (tie.spec (λ c. search rules) (λ c κs. search rules) (λ c κs. search rules) returns returns-2)

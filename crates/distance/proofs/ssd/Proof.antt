@@ -6,11 +6,11 @@ use Rattle.distance.proofs.ssd.Tie as tie
 
 returns : tie.Need-returns-in-Spherical
 unfolding ssd_of
-returns c = rw c.before.in-Spherical.is
+returns c = rw c.in-Spherical.is
 
 returns-2 : tie.Need-returns-in-Diagonal
 unfolding ssd_of
-returns-2 c = rw (c.before.in-Diagonal.is, c.total.ensures)
+returns-2 c = rw (c.in-Diagonal.is, c.total.ensures)
 
 pub ssd_spec : {M : Type 1} → statement M
 ssd_spec = tie.close (tie.spec (λ c. search rules) (λ c. search rules) (λ c. search rules) (λ c κs. search rules) returns returns-2)

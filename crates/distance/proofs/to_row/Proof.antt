@@ -14,35 +14,35 @@ returns-2 c = rw c.in-CentroidManhattan.is
 
 returns-3 : tie.Need-returns-then-n
 unfolding to_row
-returns-3 c = rw (c.before.in-AverageIntercluster.is, c.if-n.true)
+returns-3 c = rw (c.in-AverageIntercluster.is, c.if-n.true)
 
 returns-4 : tie.Need-returns-else-n
 unfolding to_row
-returns-4 c = rw (c.before.in-AverageIntercluster.is, c.if-n.false)
+returns-4 c = rw (c.in-AverageIntercluster.is, c.if-n.false)
 
 returns-5 : tie.Need-returns-then-n-2
 unfolding to_row
-returns-5 c = rw (c.before.in-AverageIntracluster.is, c.if-n-2.true)
+returns-5 c = rw (c.in-AverageIntracluster.is, c.if-n-2.true)
 
 returns-6 : tie.Need-returns-else-n-2
 unfolding to_row
-returns-6 c = rw (c.before.in-AverageIntracluster.is, c.if-n-2.false)
+returns-6 c = rw (c.in-AverageIntracluster.is, c.if-n-2.false)
 
 returns-7 : tie.Need-returns-then-n-3
 unfolding to_row
-returns-7 c = rw (c.before.in-VarianceIncrease.is, c.if-n-3.true)
+returns-7 c = rw (c.in-VarianceIncrease.is, c.if-n-3.true)
 
 returns-8 : tie.Need-returns-else-n-3
 unfolding to_row
-returns-8 c = rw (c.before.in-VarianceIncrease.is, c.if-n-3.false)
+returns-8 c = rw (c.in-VarianceIncrease.is, c.if-n-3.false)
 
 returns-9 : tie.Need-returns-then-n-4
 unfolding to_row
-returns-9 c = rw (c.before.in-Radius.is, c.if-n-4.true)
+returns-9 c = rw (c.in-Radius.is, c.if-n-4.true)
 
 returns-10 : tie.Need-returns-else-n-4
 unfolding to_row
-returns-10 c = rw (c.before.in-Radius.is, c.if-n-4.false)
+returns-10 c = rw (c.in-Radius.is, c.if-n-4.false)
 
 pub to_row_spec : {M : Type 1} → statement M
 to_row_spec =

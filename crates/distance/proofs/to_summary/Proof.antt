@@ -6,7 +6,7 @@ use Rattle.distance.proofs.to_summary.Tie as tie
 
 returns : tie.Need-returns-then-na
 unfolding to_summary
-returns c = rw (c.before.in-AverageIntercluster.is, c.if-na.true)
+returns c = rw (c.in-AverageIntercluster.is, c.if-na.true)
 
 returns-2 : tie.Need-returns-in-CentroidEuclidean
 unfolding to_summary
@@ -18,31 +18,31 @@ returns-3 c = rw c.in-CentroidManhattan.is
 
 returns-4 : tie.Need-returns-then-nb
 unfolding to_summary
-returns-4 c = rw (c.before.before.in-AverageIntercluster.is, c.before.if-na.false, c.if-nb.true)
+returns-4 c = rw (c.in-AverageIntercluster.is, c.if-na.false, c.if-nb.true)
 
 returns-5 : tie.Need-returns-else-nb
 unfolding to_summary
-returns-5 c = rw (c.before.before.in-AverageIntercluster.is, c.before.if-na.false, c.if-nb.false)
+returns-5 c = rw (c.in-AverageIntercluster.is, c.if-na.false, c.if-nb.false)
 
 returns-6 : tie.Need-returns-then-nab
 unfolding to_summary
-returns-6 c = rw (c.before.in-AverageIntracluster.is, c.if-nab.true)
+returns-6 c = rw (c.in-AverageIntracluster.is, c.if-nab.true)
 
 returns-7 : tie.Need-returns-else-nab
 unfolding to_summary
-returns-7 c = rw (c.before.in-AverageIntracluster.is, c.if-nab.false)
+returns-7 c = rw (c.in-AverageIntracluster.is, c.if-nab.false)
 
 returns-8 : tie.Need-returns-in-VarianceIncrease
 unfolding to_summary
-returns-8 c = rw (c.before.in-VarianceIncrease.is, c.increase.ensures)
+returns-8 c = rw (c.in-VarianceIncrease.is, c.increase.ensures)
 
 returns-9 : tie.Need-returns-then-nab-2
 unfolding to_summary
-returns-9 c = rw (c.before.in-Radius.is, c.if-nab-2.true)
+returns-9 c = rw (c.in-Radius.is, c.if-nab-2.true)
 
 returns-10 : tie.Need-returns-else-nab-2
 unfolding to_summary
-returns-10 c = rw (c.before.in-Radius.is, c.if-nab-2.false)
+returns-10 c = rw (c.in-Radius.is, c.if-nab-2.false)
 
 pub to_summary_spec : {M : Type 1} → statement M
 to_summary_spec =

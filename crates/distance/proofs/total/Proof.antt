@@ -18,10 +18,10 @@ loop-holds : tie.Need-loop-i-init invariant-loop decreases-loop
 loop-holds c = (search rules, unfold sum_to in refl)
 
 loop-again : tie.Need-loop-i-preserved invariant-loop decreases-loop
-loop-again c = (omega arith, rw c.before.before.loop-i.invariant.1 (sym (sum-next _ _)))
+loop-again c = (omega arith, rw c.loop-i.invariant.1 (sym (sum-next _ _)))
 
 returns : tie.Need-returns invariant-loop decreases-loop
-returns c = c.before.loop-i.invariant.1 ∙ ap (sum_to _) (omega arith)
+returns c = c.loop-i.invariant.1 ∙ ap (sum_to _) (omega arith)
 
 pub total_spec : {M : Type 1} → statement M
 total_spec =

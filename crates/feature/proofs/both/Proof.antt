@@ -24,13 +24,13 @@ loop-again : tie.Need-loop-i-preserved invariant-loop decreases-loop
 loop-again c = (
   omega arith,
   elim c.if-i-n.branch [
-    | then-i-n w ↦ w.out-is ∙ rw c.before.before.loop-i.invariant.1 (sym (up_to_turn _ _ _ _ w.if-i-n.true))
-    | else-i-n w ↦ w.out-is ∙ c.before.before.loop-i.invariant.1 ∙ sym (up_to_pass _ _ _ _ w.if-i-n.false)
+    | then-i-n w ↦ w.out-is ∙ rw c.loop-i.invariant.1 (sym (up_to_turn _ _ _ _ w.if-i-n.true))
+    | else-i-n w ↦ w.out-is ∙ c.loop-i.invariant.1 ∙ sym (up_to_pass _ _ _ _ w.if-i-n.false)
   ],
 )
 
 returns : tie.Need-returns invariant-loop decreases-loop
-returns c = c.before.loop-i.invariant.1 ∙ rw (min_end c.before.loop-i.i c.before.before.args.n (omega arith))
+returns c = c.loop-i.invariant.1 ∙ rw (min_end c.loop-i.i c.args.n (omega arith))
 
 pub both_spec : {M : Type 1} → statement M
 both_spec =

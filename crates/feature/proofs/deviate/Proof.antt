@@ -6,11 +6,11 @@ use Rattle.feature.proofs.deviate.Tie as tie
 
 returns : tie.Need-returns-in-Spherical
 unfolding deviated
-returns c = rw (c.before.before.in-Spherical.is, c.sq_euclidean-sum.ensures)
+returns c = rw (c.in-Spherical.is, c.sq_euclidean-sum.ensures)
 
 returns-2 : tie.Need-returns-in-Diagonal
 unfolding deviated
-returns-2 c = rw (c.before.in-Diagonal.is, c.added.ensures)
+returns-2 c = rw (c.in-Diagonal.is, c.added.ensures)
 
 pub deviate_spec : {M : Type 1} → statement M
 deviate_spec =

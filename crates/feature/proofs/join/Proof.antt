@@ -27,7 +27,7 @@ returns : tie.Need-returns
 unfolding blended
 returns c =
     let s = c.before.before.before.before in
-    rw (c.deviate-deviation.ensures, c.before.before.moved-mean.ensures, s.both-sum.ensures, s.before.slots-n.ensures)
+    rw (c.deviate-deviation.ensures, c.moved-mean.ensures, s.both-sum.ensures, s.slots-n.ensures)
 
 pub join_spec : {M : Type 1} → statement M
 join_spec = tie.close (tie.spec (λ c κs. search rules) both-requires (λ c. search rules) moved-requires (λ c. search rules) deviate-requires returns)

@@ -24,13 +24,13 @@ loop-again : tie.Need-loop-i-preserved invariant-loop decreases-loop
 loop-again c = (
   omega arith,
   elim c.if-i-dim.branch [
-    | then-i-dim w ↦ w.out-is ∙ rw c.before.before.loop-i.invariant.1 (sym (up_to_turn _ _ _ _ w.if-i-dim.true))
-    | else-i-dim w ↦ w.out-is ∙ c.before.before.loop-i.invariant.1 ∙ sym (up_to_pass _ _ _ _ w.if-i-dim.false)
+    | then-i-dim w ↦ w.out-is ∙ rw c.loop-i.invariant.1 (sym (up_to_turn _ _ _ _ w.if-i-dim.true))
+    | else-i-dim w ↦ w.out-is ∙ c.loop-i.invariant.1 ∙ sym (up_to_pass _ _ _ _ w.if-i-dim.false)
   ],
 )
 
 returns : tie.Need-returns invariant-loop decreases-loop
-returns c = c.before.loop-i.invariant.1 ∙ rw (min_end c.before.loop-i.i c.before.before.args.dim (omega arith))
+returns c = c.loop-i.invariant.1 ∙ rw (min_end c.loop-i.i c.args.dim (omega arith))
 
 pub moved_spec : {M : Type 1} → statement M
 moved_spec =

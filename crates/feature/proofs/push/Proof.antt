@@ -6,7 +6,7 @@ use Rattle.feature.proofs.push.Tie as tie
 
 returns : tie.Need-returns
 unfolding pushed
-returns c = rw (c.deviate-deviation.ensures, c.before.moved-mean.ensures)
+returns c = rw (c.deviate-deviation.ensures, c.moved-mean.ensures)
 
 pub push_spec : {M : Type 1} → statement M
 push_spec = tie.close (tie.spec (λ c κs. search rules) (λ c κs. search rules) returns)

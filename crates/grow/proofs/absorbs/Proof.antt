@@ -6,8 +6,8 @@ use Rattle.grow.proofs.absorbs.Tie as tie
 
 returns : tie.Need-returns
 returns c =
-    let a = c.before.before.before.before.args in
-    λ ls. absorbs-is a.s a.n a.floats.now ls a.row.now a.e (c.before.to_row.ensures ls)
+    let a = c.args in
+    λ ls. absorbs-is a.s a.n a.floats.now ls a.row.now a.e (c.to_row.ensures ls)
 
 pub absorbs_spec : {M : Type 1} → statement M
 absorbs_spec = tie.close (tie.spec (λ c κs. search rules) returns)

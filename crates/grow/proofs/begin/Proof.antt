@@ -18,11 +18,11 @@ append-requires-2 c κs =
     let a = start.args in
     let more = new.append-r.ensures.0 in (
       (
-        links_begun a.s a.n _ more refl start.requires.floats.1,
-        below-begun a.s a.n _ more start.requires.floats.2,
-        omega (arith, start.requires.floats.3, caps_small a.s a.n _ start.requires.floats.0),
+        links_begun a.s a.n _ more refl start.requires.0.1,
+        below-begun a.s a.n _ more start.requires.0.2,
+        omega (arith, start.requires.0.3, caps_small a.s a.n _ start.requires.0.0),
       ),
-      spare_begun a.s a.n _ more a.links.now a.leaf start.requires.shaped.1,
+      spare_begun a.s a.n _ more a.links.now a.leaf start.requires.1.1,
     )
 
 returns : tie.Need-returns
@@ -32,7 +32,7 @@ returns c =
     let more = new.append-r.ensures.0 in (
       more,
       begun-is a.s a.n _ more a.floats.now _ a.links.now _ a.leaf a.c (new.append-r.ensures.1 a.links.now)
-          (c.before.before.append.ensures _),
+          (c.append.ensures _),
     )
 
 pub begin_spec : {M : Type 1} → statement M

@@ -36,13 +36,13 @@ path c =
 descend-requires : tie.Need-descend-leaf-requires
 descend-requires c κs =
     let start = c.before.before.before.before.before in
-    ((start.requires.floats.0, start.requires.floats.1, fits_row start.args.s start.args.row.now start.requires.floats.2), growable_sure _ _ start.requires.growable)
+    ((start.requires.0.0, start.requires.0.1, fits_row start.args.s start.args.row.now start.requires.0.2), growable_sure _ _ start.requires.1)
 
 feed-path-requires : tie.Need-feed_path-requires
 feed-path-requires c κs =
     let start = start c.before.before in (
-      (start.requires.floats.0, start.requires.floats.1, fits_row start.args.s start.args.row.now start.requires.floats.2),
-      (growable_sure _ _ start.requires.growable, c.before.before.descend-leaf.ensures.upper_bound),
+      (start.requires.0.0, start.requires.0.1, fits_row start.args.s start.args.row.now start.requires.0.2),
+      (growable_sure _ _ start.requires.1, c.descend-leaf.ensures.upper_bound),
     )
 
 try-absorb-requires : tie.Need-try_absorb-m-requires
@@ -51,8 +51,8 @@ try-absorb-requires c κs =
     let down = found fed in
     let start = start down in
     let a = start.args in (
-      (rw fed.feed_path.auto.1.1.0 start.requires.floats.0, start.requires.floats.1, start.requires.floats.2),
-      row_place a.s a.n a.floats.now _ a.links.now a.row.now _ start.requires.growable (leaf down) down.descend-leaf.ensures.upper_bound (path fed),
+      (rw fed.feed_path.auto.floats start.requires.0.0, start.requires.0.1, start.requires.0.2),
+      row_place a.s a.n a.floats.now _ a.links.now a.row.now _ start.requires.1 (leaf down) down.descend-leaf.ensures.upper_bound (path fed),
     )
 
 split-if-over-requires : tie.Need-split_if_over-requires
@@ -62,25 +62,25 @@ split-if-over-requires c κs =
     let down = found fed in
     let start = start down in
     let a = start.args in
-    let floats = rw (sym placed.try_absorb-m.auto.1.1.0) at placed.try_absorb-m.ensures.floats_2.0 in (
-      (floats, rw (sym placed.try_absorb-m.auto.1.1.1.0) at placed.try_absorb-m.ensures.floats_2.1),
-      row_rising a.s a.n a.floats.now _ a.links.now a.row.now _ start.requires.growable (leaf down) _ _ _ (path fed) placed.try_absorb-m.ensures.links_after
+    let floats = rw (sym placed.try_absorb-m.auto.floats) at placed.try_absorb-m.ensures.floats_2.0 in (
+      (floats, rw (sym placed.try_absorb-m.auto.links) at placed.try_absorb-m.ensures.floats_2.1),
+      row_rising a.s a.n a.floats.now _ a.links.now a.row.now _ start.requires.1 (leaf down) _ _ _ (path fed) placed.try_absorb-m.ensures.links_after
           floats,
     )
 
 returns : tie.Need-returns
 returns c =
-    let split = c.before.before.before.before.split_if_over in
+    let split = c.split_if_over in
     let placed = c.before.before.before.before.before.before.before.before.before.before.before in
     let fed = fed placed in
     let down = found fed in
     let start = start down in
     let a = start.args in (
       (
-        rw (placed.try_absorb-m.auto.1.1.0, fed.feed_path.kept.1.1.0) at split.ensures.0.0,
-        rw placed.try_absorb-m.auto.1.1.1.0 at split.ensures.0.1,
+        rw (placed.try_absorb-m.auto.floats, fed.feed_path.kept.1.1.0) at split.ensures.0.0,
+        rw placed.try_absorb-m.auto.links at split.ensures.0.1,
       ),
-      grown-is a.s a.n a.floats.now _ a.links.now a.row.now _ start.requires.growable (leaf down) _ _ _ (path fed) placed.try_absorb-m.ensures.links_after
+      grown-is a.s a.n a.floats.now _ a.links.now a.row.now _ start.requires.1 (leaf down) _ _ _ (path fed) placed.try_absorb-m.ensures.links_after
           split.ensures.1,
     )
 

@@ -50,7 +50,7 @@ place : (c : tie.After-feed_path)
 place c =
     let down = found c in
     let a = (start down).args in
-    entry_place a.s a.n a.floats.now _ a.links.now (summary (start down)) _ (start down).requires.placeable (leaf down) down.descend-leaf.ensures.upper_bound (path c)
+    entry_place a.s a.n a.floats.now _ a.links.now (summary (start down)) _ (start down).requires.1 (leaf down) down.descend-leaf.ensures.upper_bound (path c)
 
 listed : (c : tie.After-begin-m)
     → tree_of (start (found (fed c))).args.s c.begin-m.result c.begin-m.new.1.1.0 c.begin-m.new.1.1.1.0
@@ -59,33 +59,33 @@ listed : (c : tie.After-begin-m)
 listed c =
     let a = (start (found (fed c))).args in
     c.begin-m.ensures.links_after
-    ∙ ap (λ e. begun (found (fed c)).descend-leaf.result e (tree_of a.s a.n (fed c).feed_path.new.1.1.0 a.links.now)) c.before.load.ensures
+    ∙ ap (λ e. begun (found (fed c)).descend-leaf.result e (tree_of a.s a.n (fed c).feed_path.new.1.1.0 a.links.now)) c.load.ensures
 
 floats : (c : tie.After-begin-m) {k : ℕ} → k ≡ length (start (found (fed c))).args.floats.now → Floats (start (found (fed c))).args.s c.begin-m.result k
 floats c q =
     let start = start (found (fed c)) in
-    floats-begun start.args.s start.args.n _ c.begin-m.ensures.value q start.requires.floats.0 (place (fed c)).room
+    floats-begun start.args.s start.args.n _ c.begin-m.ensures.value q start.requires.0.0 (place (fed c)).room
 
 links : (c : tie.After-begin-m) {k : ℕ} → k ≡ length (start (found (fed c))).args.links.now → Links (start (found (fed c))).args.s c.begin-m.result k
-links c q = let start = start (found (fed c)) in links_begun start.args.s start.args.n _ c.begin-m.ensures.value q start.requires.floats.1
+links c q = let start = start (found (fed c)) in links_begun start.args.s start.args.n _ c.begin-m.ensures.value q start.requires.0.1
 
 descend-requires : tie.Need-descend-leaf-requires
 descend-requires c κs =
     let start = c.before.before.before.before.before in
-    ((start.requires.floats.0, start.requires.floats.1, fits_slot start.args.s start.args.x.now start.requires.floats.2), placeable_sure _ _ _ start.requires.placeable)
+    ((start.requires.0.0, start.requires.0.1, fits_slot start.args.s start.args.x.now start.requires.0.2), placeable_sure _ _ _ start.requires.1)
 
 feed-path-requires : tie.Need-feed_path-requires
 feed-path-requires c κs =
     let start = start c.before.before in (
-      (start.requires.floats.0, start.requires.floats.1, fits_slot start.args.s start.args.x.now start.requires.floats.2),
-      (placeable_sure _ _ _ start.requires.placeable, c.before.before.descend-leaf.ensures.upper_bound),
+      (start.requires.0.0, start.requires.0.1, fits_slot start.args.s start.args.x.now start.requires.0.2),
+      (placeable_sure _ _ _ start.requires.1, c.descend-leaf.ensures.upper_bound),
     )
 
 load-requires : tie.Need-load-requires
 load-requires c κs =
     let fed = c.before.before.before.before in
     let start = start (found fed) in
-    (start.requires.floats.0.sized, start.requires.floats.2)
+    (start.requires.0.0.sized, start.requires.0.2)
 
 begin-requires : tie.Need-begin-m-requires
 begin-requires c κs =
@@ -94,13 +94,13 @@ begin-requires c κs =
     let a = start.args in
     let place = place fed in (
       (
-        rw fed.feed_path.auto.1.1.0 start.requires.floats.0,
-        start.requires.floats.1,
+        rw fed.feed_path.auto.floats start.requires.0.0,
+        start.requires.0.1,
         place.here,
         place.room,
       ),
       (
-        subst (Shaped a.s.feature a.s.dim) (sym c.load.ensures) (in_shaped a.s start.requires.floats.0.sized a.x.now),
+        subst (Shaped a.s.feature a.s.dim) (sym c.load.ensures) (in_shaped a.s start.requires.0.0.sized a.x.now),
         place_spare a.s a.n _ a.links.now _ place,
       ),
     )
@@ -112,24 +112,24 @@ split-up-requires c κs =
     let down = found fed in
     let start = start down in
     let a = start.args in
-    let long = floats begun (begun.begin-m.auto.1.1.0 ∙ fed.feed_path.kept.1.1.0) in (
-      (long, links begun begun.begin-m.auto.1.1.1.0),
-      entry_rising a.s a.n a.floats.now _ a.links.now (summary start) _ start.requires.placeable (leaf down) _ _ _ (path fed) (listed begun) long,
+    let long = floats begun (begun.begin-m.auto.floats ∙ fed.feed_path.kept.1.1.0) in (
+      (long, links begun begun.begin-m.auto.links),
+      entry_rising a.s a.n a.floats.now _ a.links.now (summary start) _ start.requires.1 (leaf down) _ _ _ (path fed) (listed begun) long,
     )
 
 returns : tie.Need-returns
 returns c =
-    let split = c.before.before.before.before.split_up_lem in
+    let split = c.split_up_lem in
     let begun = c.before.before.before.before.before.before.before.before.before.before.before in
     let fed = fed begun in
     let down = found fed in
     let start = start down in
     let a = start.args in (
       (
-        rw (begun.begin-m.auto.1.1.0, fed.feed_path.kept.1.1.0) at split.ensures.0.0,
-        rw begun.begin-m.auto.1.1.1.0 at split.ensures.0.1,
+        rw (begun.begin-m.auto.floats, fed.feed_path.kept.1.1.0) at split.ensures.0.0,
+        rw begun.begin-m.auto.links at split.ensures.0.1,
       ),
-      replaced-is a.s a.n a.floats.now _ a.links.now (summary start) _ start.requires.placeable (leaf down) _ _ _ (path fed) (listed begun)
+      replaced-is a.s a.n a.floats.now _ a.links.now (summary start) _ start.requires.1 (leaf down) _ _ _ (path fed) (listed begun)
           split.ensures.1,
     )
 

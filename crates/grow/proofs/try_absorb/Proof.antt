@@ -47,14 +47,14 @@ found : (c : tie.After-search_leaf-near)
 found c =
     let a = (start c).args in
     c.search_leaf-near.ensures.any_links a.links.now
-    ∙ ap (searched (entry_distance a.s a.row.now (tree (start c)))) (c.before.list.ensures a.floats.now)
+    ∙ ap (searched (entry_distance a.s a.row.now (tree (start c)))) (c.list.ensures a.floats.now)
 
 there : (c : tie.After-search_leaf-near) {e : ℕ} → c.search_leaf-near.result ≡ Entry e → e < (start c).args.n.entries
 there c q = entry_inside (start c).args.n.entries _ _ q c.search_leaf-near.ensures.inside
 
 -- the summary of the row alone, from either branch
 row_fits : (c : tie.Start) → FormFits c.args.s Row c.args.row.now
-row_fits c = fits_row c.args.s c.args.row.now c.requires.floats.2
+row_fits c = fits_row c.args.s c.args.row.now c.requires.0.2
 
 module _ (c : tie.Start) {e : Summary} (q : e ≡ (item_of c.args.s Row c.args.row.now).alone) where
   row-alone : e ≡ push c.args.s c.args.row.now blank
@@ -68,32 +68,32 @@ module _ (c : tie.Start) {e : Summary} (q : e ≡ (item_of c.args.s Row c.args.r
 
 spare : (c : tie.Start)
     → AnyFloats c.args.s c.args.n c.args.links.now (λ t. length (node_at t c.args.leaf).list + 2 < block_width c.args.s)
-spare c = place_spare c.args.s c.args.n c.args.floats.now c.args.links.now c.args.leaf c.requires.place
+spare c = place_spare c.args.s c.args.n c.args.floats.now c.args.links.now c.args.leaf c.requires.1
 
 -- the counters once an entry has begun
 module _ (c : tie.Start) {r : Counters} (q : r ≡ count_entries (c.args.n.entries + 1) c.args.n) where
   more : Floats c.args.s r (length c.args.floats.now) × Links c.args.s r (length c.args.links.now)
   more = (
-    floats-begun c.args.s c.args.n r q refl c.requires.floats.0 c.requires.place.room,
-    links_begun c.args.s c.args.n r q refl c.requires.floats.1,
+    floats-begun c.args.s c.args.n r q refl c.requires.0.0 c.requires.1.room,
+    links_begun c.args.s c.args.n r q refl c.requires.0.1,
   )
 
 search-leaf-requires : tie.Need-search_leaf-near-requires
 search-leaf-requires c κs =
     let start = c.before.before.before.before.before.before in
     let a = start.args in
-    (start.requires.floats.0, start.requires.floats.2, subst (ChildrenIn a.n true) (sym (c.list.ensures a.floats.now)) start.requires.place.inside)
+    (start.requires.0.0, start.requires.0.2, subst (ChildrenIn a.n true) (sym (c.list.ensures a.floats.now)) start.requires.1.inside)
 
 alone-requires : tie.Need-alone-requires
 alone-requires c κs =
     let near = c.before.before.before.before in
     let start = start near in
-    (start.requires.floats.0.sized, row_fits start)
+    (start.requires.0.0.sized, row_fits start)
 
 begin-requires : tie.Need-begin-requires
 begin-requires c κs =
     let start = start (none c) in
-    ((start.requires.floats.0, start.requires.floats.1, start.requires.place.here, start.requires.place.room), (row-shaped start c.alone.ensures, spare start))
+    ((start.requires.0.0, start.requires.0.1, start.requires.1.here, start.requires.1.room), (row-shaped start c.alone.ensures, spare start))
 
 returns : tie.Need-returns-in_default
 returns c =
@@ -101,22 +101,22 @@ returns c =
     let near = none new in
     let start = start near in
     let a = start.args in
-    let begin = c.before.before.before.before.begin in (
+    let begin = c.begin in (
       more start begin.ensures.0,
-      placed_nothing a.s a.row.now a.leaf (tree start) (found near) new.before.before.before.in_default.is
+      placed_nothing a.s a.row.now a.leaf (tree start) (found near) new.in_default.is
           (row-begun start new.alone.ensures begin.ensures.1),
     )
 
 absorbs-requires : tie.Need-absorbs-requires
 absorbs-requires c κs =
     let near = c.before.before.before.before in
-    ((start near).requires.floats.0, there near c.before.before.in-Entry.is, (start near).requires.floats.2)
+    ((start near).requires.0.0, there near c.in-Entry.is, (start near).requires.0.2)
 
 push-requires : tie.Need-push-requires
 push-requires c κs =
     let tested = c.before.before in
     let near = some tested in
-    ((start near).requires.floats.0, there near tested.before.before.before.in-Entry.is, (start near).requires.floats.2)
+    ((start near).requires.0.0, there near tested.in-Entry.is, (start near).requires.0.2)
 
 returns-2 : tie.Need-returns-then-absorbs
 returns-2 c =
@@ -125,18 +125,18 @@ returns-2 c =
     let near = some tested in
     let start = start near in
     let a = start.args in (
-      (start.requires.floats.0, start.requires.floats.1),
-      placed-absorbed a.s a.row.now a.leaf (tree start) (found near) tested.before.before.before.in-Entry.is
-          (tested.absorbs.ensures a.links.now) pushed.before.before.if-absorbs.true (pushed.push.ensures a.links.now),
+      (start.requires.0.0, start.requires.0.1),
+      placed-absorbed a.s a.row.now a.leaf (tree start) (found near) tested.in-Entry.is
+          (tested.absorbs.ensures a.links.now) pushed.if-absorbs.true (pushed.push.ensures a.links.now),
     )
 
 alone-requires-2 : tie.Need-alone-requires-2
-alone-requires-2 c κs = let start = start (some c.before.before.before) in (start.requires.floats.0.sized, row_fits start)
+alone-requires-2 c κs = let start = start (some c.before.before.before) in (start.requires.0.0.sized, row_fits start)
 
 begin-requires-2 : tie.Need-begin-requires-2
 begin-requires-2 c κs =
     let start = start (some (tested c)) in
-    ((start.requires.floats.0, start.requires.floats.1, start.requires.place.here, start.requires.place.room), (row-shaped start c.alone-2.ensures, spare start))
+    ((start.requires.0.0, start.requires.0.1, start.requires.1.here, start.requires.1.room), (row-shaped start c.alone-2.ensures, spare start))
 
 returns-3 : tie.Need-returns
 returns-3 c =
@@ -145,10 +145,10 @@ returns-3 c =
     let near = some tested in
     let start = start near in
     let a = start.args in
-    let begin = c.before.before.before.before.begin-2 in (
+    let begin = c.begin-2 in (
       more start begin.ensures.0,
-      placed-begun a.s a.row.now a.leaf (tree start) (found near) tested.before.before.before.in-Entry.is
-          (tested.absorbs.ensures a.links.now) new.before.before.before.if-absorbs.false (row-begun start new.alone-2.ensures begin.ensures.1),
+      placed-begun a.s a.row.now a.leaf (tree start) (found near) tested.in-Entry.is
+          (tested.absorbs.ensures a.links.now) new.if-absorbs.false (row-begun start new.alone-2.ensures begin.ensures.1),
     )
 
 pub try_absorb_spec : {M : Type 1} → statement M

@@ -31,9 +31,9 @@ goes-first-requires c κs =
 
 loop-again : tie.Need-loop-k-preserved invariant-loop decreases-loop
 loop-again c =
-    let first = c.before.goes_first in
-    let taken = c.before.before.loop-k-test.true in
-    let loop = c.before.before.before.loop-k in
+    let first = c.goes_first in
+    let taken = c.loop-k-test.true in
+    let loop = c.loop-k in
     let start = c.before.before.before.before.before.before in
     let list = start.args.list.now in
     let few = start.requires.3 in
@@ -58,7 +58,7 @@ loop-again c =
 
 returns : tie.Need-returns invariant-loop decreases-loop
 returns c =
-    let loop = c.before.loop-k in
+    let loop = c.loop-k in
     let start = c.before.before.before.before in
     let a = start.args in
     λ ls. placed_end a.s (child (tree_of a.s a.n a.floats.now ls) a.leaf) a.list.now a.w loop.k loop.ones loop.twos

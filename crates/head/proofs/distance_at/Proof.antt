@@ -39,7 +39,7 @@ unfolding distance_at
 returns-5 c = search rules
 
 returns-6 : tie.Need-returns-in_default
-returns-6 c = let r = c.in_default.in_default-own.rest in other c.before.args.n r.0.0.0.0.1 r.0.0.0.1 r.0.0.1 r.0.1 r.1
+returns-6 c = let r = c.in_default.in_default-own.rest in other c.args.n r.0.0.0.0.1 r.0.0.0.1 r.0.0.1 r.0.1 r.1
 
 pub distance_at_spec : {M : Type 1} → statement M
 distance_at_spec = tie.close (tie.spec returns returns-2 returns-3 returns-4 returns-5 returns-6)

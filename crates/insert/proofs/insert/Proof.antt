@@ -30,27 +30,27 @@ grow-requires : tie.Need-grow-m-requires
 grow-requires c κs =
     let start = c.before.before.before.before.before.before.before in
     let a = start.args in
-    ((start.requires.floats.0, start.requires.floats.1, start.requires.dim_in_bounds.0), rest_grows a.s a.row.now (tree start) start.requires.dim_in_bounds.1)
+    ((start.requires.0.0, start.requires.0.1, start.requires.1.0), rest_grows a.s a.row.now (tree start) start.requires.1.1)
 
 rebuild-requires : tie.Need-rebuild-requires
 rebuild-requires c κs =
-    let test = c.before.before.before.before.if-s-m in
+    let test = c.if-s-m in
     let grown = c.before.before.before.before.before.before.before.before.before.before.before in
     let start = start grown in
     let a = start.args in
     let grow = grown.grow-m in (
-      (rw grow.auto.1.1.0 grow.ensures.0.0, rw grow.auto.1.1.1.0 grow.ensures.0.1, start.requires.floats.2),
-      rw grow.ensures.1 (rest_rebuilds a.s a.row.now (tree start) start.requires.dim_in_bounds.1 start.requires.floats.0.sized (rw (entries grown) test.true)),
+      (rw grow.auto.1.1.0 grow.ensures.0.0, rw grow.auto.1.1.1.0 grow.ensures.0.1, start.requires.0.2),
+      rw grow.ensures.1 (rest_rebuilds a.s a.row.now (tree start) start.requires.1.1 start.requires.0.0.sized (rw (entries grown) test.true)),
     )
 
 returns : tie.Need-returns-then-s-m
 returns c =
-    let test = c.before.before.before.before.before.before.before.before.before.before.before.before.before.if-s-m in
+    let test = c.if-s-m in
     let grown = growing (c.before.before.before.before.before.before.before.before.before.before.before.before.before.before.before.before)
     in
     let start = start grown in
     let grow = grown.grow-m in
-    let new = c.before.before.before.before.before.before.before.before.rebuild in (
+    let new = c.rebuild in (
       (rw grow.kept.1.1.0 at new.ensures.0.0, rw grow.kept.1.1.1.0 at new.ensures.0.1),
       new.ensures.1 ∙ ap (rebuilt start.args.s) grow.ensures.1
           ∙ with_rebuild start.args.s start.args.row.now (tree start) (rw (entries grown) test.true),

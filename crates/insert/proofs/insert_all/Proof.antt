@@ -33,33 +33,33 @@ start c = c.before.before.before.before.before.before
 loop-holds : tie.Need-loop-k-init invariant-loop decreases-loop
 loop-holds c =
     let start = c.before.before.before.before.before in (
-      start.requires.floats.0,
-      start.requires.floats.1,
+      start.requires.0.0,
+      start.requires.0.1,
       refl,
       refl,
       refl,
       refl,
       batch_start start.args.s start.args.rows.now start.args.count (tree start)
-          start.requires.dim_in_bounds.1,
+          start.requires.1.1,
     )
 
 row-requires : tie.Need-row-requires invariant-loop decreases-loop
 row-requires c κs =
     let start = c.before.before.before.before.before.before.before.before.before.before.before in
-    let loop = c.before.before.before.before.before.loop-k in
-    let more = c.before.before.before.before.loop-k-test in
-    row_there start.args.s start.args.count loop.k (length start.args.rows.now) more.true start.requires.dim_in_bounds.0
+    let loop = c.loop-k in
+    let more = c.loop-k-test in
+    row_there start.args.s start.args.count loop.k (length start.args.rows.now) more.true start.requires.1.0
 
 insert-requires : tie.Need-insert-m-requires invariant-loop decreases-loop
 insert-requires c κs =
     let start = c.before.before.before.before.before.before.before.before.before.before.before.before in
-    let more = c.before.before.before.before.before.loop-k-test in
+    let more = c.loop-k-test in
     let a = start.args in
-    let l = c.before.before.before.before.before.before.loop-k in
-    let there = row_there a.s a.count l.k (length a.rows.now) more.true start.requires.dim_in_bounds.0 in
+    let l = c.loop-k in
+    let there = row_there a.s a.count l.k (length a.rows.now) more.true start.requires.1.0 in
     let wide = row_wide a.s a.rows.now l.k there in
     let batch = l.invariant.6 in (
-      (l.invariant.0, l.invariant.1, rw (l.invariant.4, l.invariant.5) start.requires.floats.2),
+      (l.invariant.0, l.invariant.1, rw (l.invariant.4, l.invariant.5) start.requires.0.2),
       (
         rw c.row.ensures (omega arith),
         rest-one a.s (row_of a.s a.rows.now l.k) _ (batch-one a.s a.rows.now a.count (tree start) batch more.true),
@@ -75,40 +75,40 @@ add-k c =
 
 loop-again : tie.Need-loop-k-preserved invariant-loop decreases-loop
 loop-again c =
-    let more = c.before.before.before.before.before.before.before.before.before.before.before.before.before.before.loop-k-test in
-    let row = c.before.before.before.before.before.before.before.before.before.row in
+    let more = c.loop-k-test in
+    let row = c.row in
     let turn = c.before.before.before.before.before.before.before.before.before.before.before.before.before.before.before in
     let start = start turn in
     let a = start.args in
     let l = turn.loop-k in
-    let new = c.before.before.before.before.before.before.before.before.insert-m in (
+    let new = c.insert-m in (
       rw new.auto.1.1.0 new.ensures.0.0,
       rw new.auto.1.1.1.0 new.ensures.0.1,
       new.auto.1.1.0 ∙ l.invariant.2,
       new.auto.1.1.1.0 ∙ l.invariant.3,
       new.auto.1.1.1.1.0 ∙ l.invariant.4,
       new.auto.1.1.1.1.1.0 ∙ l.invariant.5,
-      batch-next a.s a.rows.now a.count (tree start) l.invariant.6 start.requires.floats.0.sized more.true
+      batch-next a.s a.rows.now a.count (tree start) l.invariant.6 start.requires.0.0.sized more.true
           (new.ensures.1 ∙ ap (λ x. inserted a.s x (tree_of a.s l.m l.floats l.links)) row.ensures),
     )
 
 same_length : tie.Need-shape_of-floats invariant-loop decreases-loop
-same_length c = c.before.loop-k.invariant.2
+same_length c = c.loop-k.invariant.2
 
 same-length-2 : tie.Need-shape_of-links invariant-loop decreases-loop
-same-length-2 c = c.before.loop-k.invariant.3
+same-length-2 c = c.loop-k.invariant.3
 
 same-length-3 : tie.Need-shape_of-scratch invariant-loop decreases-loop
-same-length-3 c = c.before.loop-k.invariant.4
+same-length-3 c = c.loop-k.invariant.4
 
 same-length-4 : tie.Need-shape_of-numbers invariant-loop decreases-loop
-same-length-4 c = c.before.loop-k.invariant.5
+same-length-4 c = c.loop-k.invariant.5
 
 returns : tie.Need-returns invariant-loop decreases-loop
 returns c =
     let start = c.before.before.before.before.before.before.before in
     let a = start.args in
-    let l = c.before.loop-k in (
+    let l = c.loop-k in (
       (rw l.invariant.2 at l.invariant.0, rw l.invariant.3 at l.invariant.1),
       batch_end a.s a.rows.now a.count (tree start) l.invariant.6 c.loop-k-test.false,
     )

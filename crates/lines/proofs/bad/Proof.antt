@@ -10,9 +10,9 @@ use Rattle.lines.proofs.bad.Tie as tie
 returns : tie.Need-returns
 unfolding bad_run
 returns c =
-    let run = c.before.before.args.run in
+    let run = c.args.run in
     let at : Stage → Run = λ st. record { head = run.head-1; stage = st; number = run.number; long = 0 } in
-    ap at c.before.bad_stage-stage.ensures
+    ap at c.bad_stage-stage.ensures
 
 pub bad_spec : {M : Type 1} → statement M
 bad_spec = tie.close (tie.spec (λ c κs. search rules) returns)

@@ -19,8 +19,8 @@ returns-2 c =
     let else1 = c.before.before.before.before in
     let start = else1.before.before.before.before.before.before in
     let a = start.args in
-    let w = c.before.before.push.ensures in
-    (w.reading a.floats.now a.links.now start.requires.reading, w.reads a.floats.now a.links.now start.requires.reading else1.if-b-eq10.false)
+    let w = c.push.ensures in
+    (w.reading a.floats.now a.links.now start.requires.1, w.reads a.floats.now a.links.now start.requires.1 else1.if-b-eq10.false)
 
 pub byte_spec : {M : Type 1} → statement M
 byte_spec =

@@ -39,17 +39,17 @@ loop-again c =
         inv.3,
         start.requires.0,
       )) inv.4
-          c.before.before.before.loop-i-test.true c.before.if-b-eq10.false (omega arith),
+          c.loop-i-test.true c.if-b-eq10.false (omega arith),
     )
 
 same_length : tie.Need-shape_of-line invariant-loop decreases-loop
-same_length c = c.before.before.loop-i.invariant.3
+same_length c = c.loop-i.invariant.3
 
 returns : tie.Need-returns invariant-loop decreases-loop
 unfolding long_to
 returns c =
-    let a = c.before.before.before.args in
-    let loop = c.before.before.loop-i in
+    let a = c.args in
+    let loop = c.loop-i in
     let n : loop.i ≡ loop.long - a.run.long = omega (arith, loop.invariant.1) in (
       (omega (arith, loop.invariant.1), omega (arith, loop.invariant.0, loop.invariant.1)),
       subst (λ n. Copied a.run a.line.now (take n a.bytes.now) (long_to a.run loop.long) loop.line) n loop.invariant.4,

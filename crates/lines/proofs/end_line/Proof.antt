@@ -9,9 +9,9 @@ read-first-requires : tie.Need-read_first-requires
 read-first-requires c κs =
     let start = c.before.before.before.before.before.before.before.before.before.before in
     let a = start.args in (
-      start.requires.room.floats_room,
-      start.requires.room.links_room,
-      stage_stands a.run Stages.First c.before.before.before.in-First.is a.floats.now a.links.now start.requires.reading.stands,
+      start.requires.0.floats_room,
+      start.requires.0.links_room,
+      stage_stands a.run Stages.First c.in-First.is a.floats.now a.links.now start.requires.1.stands,
     )
 
 read-row-requires : tie.Need-read_row-requires
@@ -19,7 +19,7 @@ read-row-requires c κs =
     let enum-told2 = c.before.before.before.before.before in
     let start = enum-told2.before.before.before.before.before.before.before in
     let a = start.args in
-    (rows_room start.requires.room, stage_stands a.run Stages.Rows enum-told2.in-Rows.is a.floats.now a.links.now start.requires.reading.stands)
+    (rows_room start.requires.0, stage_stands a.run Stages.Rows enum-told2.in-Rows.is a.floats.now a.links.now start.requires.1.stands)
 
 returns : tie.Need-returns-in-First
 returns c =
@@ -40,7 +40,7 @@ returns-2 c =
 returns-3 : tie.Need-returns-in-Bad
 returns-3 c =
     let start = c.before.before.before.before.before.before.before.before.before in
-    let a = start.args in still_bad a.run _ c.bad.ensures _ a.floats.now a.links.now c.before.before.in-Bad.is
+    let a = start.args in still_bad a.run _ c.bad.ensures _ a.floats.now a.links.now c.in-Bad.is
 
 pub end_line_spec : {M : Type 1} → statement M
 end_line_spec =

@@ -19,9 +19,9 @@ unfolding Stands
 returns c =
     let start = c.before.before.before.before.before.before.before.before in
     let a = start.args in
-    let k : most + 1 < a.run.number = omega (arith, c.before.if-run.true) in
+    let k : most + 1 < a.run.number = omega (arith, c.if-run.true) in
     record {
-      reads = (λ line y. full_read a.run (lent start) start.requires.stands.0 start.requires.room a.row.now start.requires.stands.1 k _ c.bad.ensures line y _ _);
+      reads = (λ line y. full_read a.run (lent start) start.requires.1.0 start.requires.0 a.row.now start.requires.1.1 k _ c.bad.ensures line y _ _);
     }
 
 change-requires : tie.Need-change-head-requires
@@ -31,9 +31,9 @@ change-requires c κs =
     let start = else1.before.before.before.before.before.before.before in
     let a = start.args in
     let k : a.run.number ≤ most + 1 = omega (arith, else1.if-run.false) in
-    let long = start.requires.stands.1 in (
-      (ready a.run (lent start) start.requires.stands.0 start.requires.room a.row.now, omega arith),
-      workable a.run (lent start) start.requires.stands.0 start.requires.room a.row.now k,
+    let long = start.requires.1.1 in (
+      (ready a.run (lent start) start.requires.1.0 start.requires.0 a.row.now, omega arith),
+      workable a.run (lent start) start.requires.1.0 start.requires.0 a.row.now k,
     )
 
 returns-2 : tie.Need-returns
@@ -45,7 +45,7 @@ returns-2 c =
     let a = start.args in
     let k : a.run.number ≤ most + 1 = omega (arith, else1.if-run.false) in
     record {
-      reads = (λ line y. row_read a.run (lent start) start.requires.stands.0 start.requires.room a.row.now start.requires.stands.1 k _
+      reads = (λ line y. row_read a.run (lent start) start.requires.1.0 start.requires.0 a.row.now start.requires.1.1 k _
           change.change-head.ensures line y);
     }
 

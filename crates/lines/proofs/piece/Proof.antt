@@ -10,7 +10,7 @@ use Rattle.lines.proofs.piece.Tie as tie
 copy-requires : tie.Need-copy-next-requires
 copy-requires c κs =
     let start = c.before.before.before.before.before.before.before in
-    (start.requires.room.line_room, start.requires.reading.0.short)
+    (start.requires.0.line_room, start.requires.1.0.short)
 
 sub-n : tie.Need-overflow_sub-n
 sub-n c =
@@ -24,15 +24,15 @@ returns c =
     let a = start.args in
     let w = copy.copy-next.ensures in
     let all = c.if-n-bytes.true in
-    let some = start.requires.reading.1 in (
-      (omega arith, omega arith, w.1.reading a.floats.now a.links.now start.requires.reading.0),
-      w.1.reads a.floats.now a.links.now start.requires.reading.0,
+    let some = start.requires.1.1 in (
+      (omega arith, omega arith, w.1.reading a.floats.now a.links.now start.requires.1.0),
+      w.1.reads a.floats.now a.links.now start.requires.1.0,
     )
 
 shared-slice-read-byte : tie.Need-bounds-bytes-n
 shared-slice-read-byte c =
     let copy = c.before.before.before.before.before.before in
-    omega (arith, copy.copy-next.ensures.long_le_long.0, copy.copy-next.ensures.long_le_long.1, c.before.if-n-bytes.false)
+    omega (arith, copy.copy-next.ensures.long_le_long.0, copy.copy-next.ensures.long_le_long.1, c.if-n-bytes.false)
 
 byte-requires : tie.Need-byte-end-requires
 byte-requires c κs =
@@ -40,7 +40,7 @@ byte-requires c κs =
     let start = copy.before.before.before.before.before.before.before.before in
     let a = start.args in
     let new = copy.copy-next in
-    (rw new.auto.1.1.0 start.requires.room, new.ensures.1.reading a.floats.now a.links.now start.requires.reading.0)
+    (rw new.auto.1.1.0 start.requires.0, new.ensures.1.reading a.floats.now a.links.now start.requires.1.0)
 
 add-t13 : tie.Need-overflow_add-result
 add-t13 c =
@@ -60,7 +60,7 @@ returns-2 c =
     let n = copy.copy-next.result.long - a.run.long in
     let more : n < length a.bytes.now = omega (arith, w.0.0, w.0.1, else1.if-n-bytes.false) in (
       (omega arith, omega (arith, more), byte.byte-end.ensures.reading_2),
-      reads_more a.bytes.now n more (w.1.reads a.floats.now a.links.now start.requires.reading.0) byte.byte-end.ensures.reads,
+      reads_more a.bytes.now n more (w.1.reads a.floats.now a.links.now start.requires.1.0) byte.byte-end.ensures.reads,
     )
 
 pub piece_spec : {M : Type 1} → statement M

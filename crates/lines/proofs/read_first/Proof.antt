@@ -11,7 +11,7 @@ returns c =
     let start = c.before.before.before.before.before.before.before.before in
     let a = start.args in
     no_head a.run _ c.bad.ensures a.bytes.now a.floats.now a.links.now start.requires.2
-    (first_none _ (sym c.before.before.before.before.first_line.ensures ∙ c.before.before.in_default.is))
+    (first_none _ (sym c.first_line.ensures ∙ c.in_default.is))
 
 create-requires : tie.Need-create-head-requires
 create-requires c κs =

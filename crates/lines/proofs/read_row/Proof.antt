@@ -15,14 +15,14 @@ row-line-requires : tie.Need-row_line-requires
 unfolding Stands settings_of
 row-line-requires c κs =
     let start = c.before.before.before.before.before.before.before in
-    let few = (sizes_of start.requires.stands.serving).dim_few in omega arith
+    let few = (sizes_of start.requires.1.serving).dim_few in omega arith
 
 returns : tie.Need-returns-in_default
 returns c =
     let row_Line = c.before.before.before.before.before in
     let start = row_Line.before.before.before.before.before.before.before.before in
     let a = start.args in
-    malformed_read a.run a.bytes.now a.floats.now a.links.now _ _ row_Line.row_line.ensures c.before.before.in_default.is
+    malformed_read a.run a.bytes.now a.floats.now a.links.now _ _ row_Line.row_line.ensures c.in_default.is
     _ c.bad.ensures
 
 part-insert-end : tie.Need-slice_bounds-insert-end
@@ -30,15 +30,15 @@ unfolding Stands settings_of
 part-insert-end c =
     let row_Line = c.before.before.before.before in
     let start = row_Line.before.before.before.before.before.before.before.before in
-    let few = (sizes_of start.requires.stands.serving).dim_few in omega (arith, row_Line.row_line.auto.1.1.0)
+    let few = (sizes_of start.requires.1.serving).dim_few in omega (arith, row_Line.row_line.auto.row)
 
 insert-requires : tie.Need-insert-requires
 unfolding Stands settings_of
 insert-requires c κs =
     let row_Line = c.before.before.before.before.before.before.before.before.before in
     let start = row_Line.before.before.before.before.before.before.before.before in
-    let few = (sizes_of start.requires.stands.serving).dim_few in
-    (start.requires.room, (start.requires.stands, length-take-le _ _ (omega (arith, few, row_Line.row_line.auto.1.1.0)) ∙ sub-zero _))
+    let few = (sizes_of start.requires.1.serving).dim_few in
+    (start.requires.0, (start.requires.1, length-take-le _ _ (omega (arith, few, row_Line.row_line.auto.row)) ∙ sub-zero _))
 
 returns-2 : tie.Need-returns
 returns-2 c =

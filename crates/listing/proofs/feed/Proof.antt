@@ -20,7 +20,7 @@ decreases-loop chunk line₀ floats₀ links₀ scratch₀ numbers₀ r₀ i₀ 
 loop-holds : tie.Need-loop-i-init invariant-loop decreases-loop
 loop-holds c =
     let start = c.before.before.before.before.before.before in
-    (search rules, refl, refl, refl, refl, refl, start.requires.reading, reads_none _)
+    (search rules, refl, refl, refl, refl, refl, start.requires.1, reads_none _)
 
 piece-requires : tie.Need-piece-p-requires invariant-loop decreases-loop
 piece-requires c κs =
@@ -28,7 +28,7 @@ piece-requires c κs =
     let turn = in-loop.before in
     let start = turn.before.before.before.before.before.before.before in
     let inv = turn.loop-i.invariant in (
-      rw (inv.1, inv.2, inv.3, inv.4, inv.5) start.requires.room,
+      rw (inv.1, inv.2, inv.3, inv.4, inv.5) start.requires.0,
       (
         inv.6,
         omega (
@@ -77,24 +77,24 @@ loop-again c =
     )
 
 same_length : tie.Need-shape_of-line invariant-loop decreases-loop
-same_length c = c.before.loop-i.invariant.1
+same_length c = c.loop-i.invariant.1
 
 same-length-2 : tie.Need-shape_of-floats invariant-loop decreases-loop
-same-length-2 c = c.before.loop-i.invariant.2
+same-length-2 c = c.loop-i.invariant.2
 
 same-length-3 : tie.Need-shape_of-links invariant-loop decreases-loop
-same-length-3 c = c.before.loop-i.invariant.3
+same-length-3 c = c.loop-i.invariant.3
 
 same-length-4 : tie.Need-shape_of-scratch invariant-loop decreases-loop
-same-length-4 c = c.before.loop-i.invariant.4
+same-length-4 c = c.loop-i.invariant.4
 
 same-length-5 : tie.Need-shape_of-numbers invariant-loop decreases-loop
-same-length-5 c = c.before.loop-i.invariant.5
+same-length-5 c = c.loop-i.invariant.5
 
 returns : tie.Need-returns invariant-loop decreases-loop
 returns c =
     let start = c.before.before.before.before.before.before.before.before in
-    let loop = c.before.loop-i in
+    let loop = c.loop-i in
     let chunk = start.args.chunk.now in
     let end : length chunk ≤ loop.i = (let rest = c.loop-i-test.false in omega arith) in
     (loop.invariant.6, reads_all chunk loop.i end loop.invariant.7)

@@ -9,7 +9,7 @@ feed-requires : tie.Need-feed-r-requires
 feed-requires c κs =
     let begin = c.before.before.before.before.before in
     let start = begin.before.before.before.before.before.before.before.before in
-    (start.requires.room, begin.begin.ensures.reading _ _)
+    (start.requires.0, begin.begin.ensures.reading _ _)
 
 finish-requires : tie.Need-finish-end-requires
 finish-requires c κs =

@@ -33,21 +33,21 @@ returns : tie.Need-returns-then-not-list_filled invariant-loop decreases-loop
 unfolding filled
 returns c =
     let start = c.before.before.before.before.before.before in
-    let loop = c.before.before.before.before.loop-i in
-    let if1 = c.before.before.loop-i-test in
-    λ fs. fails_at _ _ loop.i if1.true (c.before.list_filled.ensures fs) (not-true _ c.if-not-list_filled.true-raw)
+    let loop = c.loop-i in
+    let if1 = c.loop-i-test in
+    λ fs. fails_at _ _ loop.i if1.true (c.list_filled.ensures fs) (not-true _ c.if-not-list_filled.true-raw)
     ∙ nodes_placed start.args.s start.args.n fs start.args.links.now _
 
 loop-again : tie.Need-loop-i-preserved invariant-loop decreases-loop
 loop-again c =
-    let loop = c.before.before.before.before.loop-i in
-    (omega arith, λ fs. passed_more _ loop.i (loop.invariant.1 fs) (c.before.list_filled.ensures fs) (not-false _ c.if-not-list_filled.false-raw))
+    let loop = c.loop-i in
+    (omega arith, λ fs. passed_more _ loop.i (loop.invariant.1 fs) (c.list_filled.ensures fs) (not-false _ c.if-not-list_filled.false-raw))
 
 returns-2 : tie.Need-returns invariant-loop decreases-loop
 unfolding filled
 returns-2 c =
     let start = c.before.before.before.before in
-    let loop = c.before.before.loop-i in
+    let loop = c.loop-i in
     λ fs. passed_all _ _ loop.i (loop.invariant.1 fs) c.loop-i-test.false
     ∙ nodes_placed start.args.s start.args.n fs start.args.links.now _
 

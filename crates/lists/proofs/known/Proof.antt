@@ -7,11 +7,11 @@ use Rattle.lists.proofs.known.Tie as tie
 
 returns : tie.Need-returns-then-leaf
 unfolding known
-returns c = λ fs. rw c.if-leaf.true (sym (count_entries_lem c.before.args.s c.before.args.n fs c.before.args.links.now))
+returns c = λ fs. rw c.if-leaf.true (sym (count_entries_lem c.args.s c.args.n fs c.args.links.now))
 
 returns-2 : tie.Need-returns-else-leaf
 unfolding known
-returns-2 c = λ fs. rw c.if-leaf.false (sym (count_nodes_lem c.before.args.s c.before.args.n fs c.before.args.links.now))
+returns-2 c = λ fs. rw c.if-leaf.false (sym (count_nodes_lem c.args.s c.args.n fs c.args.links.now))
 
 pub known_spec : {M : Type 1} → statement M
 known_spec = tie.close (tie.spec returns returns-2)

@@ -6,10 +6,10 @@ use Rattle.lists.proofs.list_filled.Statement.{statement}
 use Rattle.lists.proofs.list_filled.Tie as tie
 
 list-len-requires : tie.Need-list_len-requires
-list-len-requires c κs = c.before.requires
+list-len-requires c κs = c.requires
 
 returns : tie.Need-returns-then-list_len-gt0
-returns c = λ fs. rw (← c.before.list_len.ensures fs, lt-ltb 0 c.before.list_len.result c.if-list_len-gt0.true)
+returns c = λ fs. rw (← c.list_len.ensures fs, lt-ltb 0 c.list_len.result c.if-list_len-gt0.true)
 
 is-leaf-requires : tie.Need-is_leaf-requires
 is-leaf-requires c κs =
@@ -18,13 +18,13 @@ is-leaf-requires c κs =
 
 returns-2 : tie.Need-returns-then-not-is_leaf
 returns-2 c =
-    let list-len = c.before.before.before.list_len in
-    let if1 = c.before.before.if-list_len-gt0 in
+    let list-len = c.list_len in
+    let if1 = c.if-list_len-gt0 in
     λ fs. rw (
       ← list-len.ensures fs,
       le-ltb 0 list-len.result if1.false,
-      ← c.before.is_leaf.ensures fs,
-      not-true c.before.is_leaf.result
+      ← c.is_leaf.ensures fs,
+      not-true c.is_leaf.result
           c.if-not-is_leaf.true-raw,
     )
 
@@ -32,10 +32,10 @@ returns-3 : tie.Need-returns-then-n-ne1
 unfolding lone_root
 returns-3 c =
     let start = c.before.before.before.before.before.before.before in
-    let list-len = c.before.before.before.before.before.list_len in
-    let if1 = c.before.before.before.before.if-list_len-gt0 in
-    let is_leaf = c.before.before.before.is_leaf in
-    let if2 = c.before.before.if-not-is_leaf in
+    let list-len = c.list_len in
+    let if1 = c.if-list_len-gt0 in
+    let is_leaf = c.is_leaf in
+    let if2 = c.if-not-is_leaf in
     λ fs. rw (
       ← list-len.ensures fs,
       le-ltb 0 list-len.result if1.false,
@@ -49,17 +49,17 @@ returns-4 : tie.Need-returns
 unfolding lone_root
 returns-4 c =
     let start = c.before.before.before.before.before.before.before.before in
-    let list-len = c.before.before.before.before.before.before.list_len in
-    let if1 = c.before.before.before.before.before.if-list_len-gt0 in
-    let is_leaf = c.before.before.before.before.is_leaf in
-    let if2 = c.before.before.before.if-not-is_leaf in
+    let list-len = c.list_len in
+    let if1 = c.if-list_len-gt0 in
+    let is_leaf = c.is_leaf in
+    let if2 = c.if-not-is_leaf in
     λ fs. rw (
       ← list-len.ensures fs,
       le-ltb 0 list-len.result if1.false,
       ← is_leaf.ensures fs,
       not-false is_leaf.result if2.false,
       count_nodes_lem start.args.s start.args.n fs start.args.links.now,
-      eq-eqb start.args.n.nodes 1 c.before.if-n-ne1.false,
+      eq-eqb start.args.n.nodes 1 c.if-n-ne1.false,
       count_entries_lem start.args.s start.args.n fs start.args.links.now,
     )
 

@@ -4,7 +4,7 @@ use Rattle.once.proofs.leaf_len.Statement.{statement}
 use Rattle.once.proofs.leaf_len.Tie as tie
 
 is-leaf-requires : tie.Need-is_leaf-requires
-is-leaf-requires c κs = c.before.requires
+is-leaf-requires c κs = c.requires
 
 list-len-requires : tie.Need-list_len-requires
 list-len-requires c κs =
@@ -14,12 +14,12 @@ list-len-requires c κs =
 returns : tie.Need-returns-then-is_leaf
 unfolding leaf_list
 returns c =
-    let is_leaf = c.before.before.is_leaf in
-    λ fs. rw (← is_leaf.ensures fs, c.before.if-is_leaf.true) (c.list_len.ensures fs)
+    let is_leaf = c.is_leaf in
+    λ fs. rw (← is_leaf.ensures fs, c.if-is_leaf.true) (c.list_len.ensures fs)
 
 returns-2 : tie.Need-returns-else-is_leaf
 unfolding leaf_list
-returns-2 c = λ fs. rw (← c.before.is_leaf.ensures fs, c.if-is_leaf.false)
+returns-2 c = λ fs. rw (← c.is_leaf.ensures fs, c.if-is_leaf.false)
 
 pub leaf_len_spec : {M : Type 1} → statement M
 leaf_len_spec = tie.close (tie.spec is-leaf-requires list-len-requires returns returns-2)

@@ -24,8 +24,8 @@ decreases-loop s n links sum₀ i₀ sum i = n.nodes - i
 few : (c : tie.After-leaf_len-sum invariant-loop decreases-loop) → c.leaf_len-sum.result ≤ 17
 few c =
     let start = c.before.before.before.before.before in
-    let loop = c.before.before.before.loop-i in
-    rw (c.leaf_len-sum.ensures []) (leaf-few start.args.s start.args.n [] start.args.links.now _ loop.i start.requires c.before.loop-i-test.true)
+    let loop = c.loop-i in
+    rw (c.leaf_len-sum.ensures []) (leaf-few start.args.s start.args.n [] start.args.links.now _ loop.i start.requires c.loop-i-test.true)
 
 loop-holds : tie.Need-loop-i-init invariant-loop decreases-loop
 loop-holds c = (omega arith, omega arith, λ fs. sum-none _)
@@ -42,13 +42,13 @@ add-sum c =
 
 loop-again : tie.Need-loop-i-preserved invariant-loop decreases-loop
 loop-again c =
-    let loop = c.before.before.before.loop-i in
+    let loop = c.loop-i in
     let q = few c in (omega arith, omega arith, λ fs. sum_more _ loop.i (loop.invariant.2 fs) (c.leaf_len-sum.ensures fs))
 
 returns : tie.Need-returns invariant-loop decreases-loop
 returns c =
     let start = c.before.before.before.before in
-    let loop = c.before.before.loop-i in
+    let loop = c.loop-i in
     λ fs. sum_end _ _ loop.i (loop.invariant.2 fs) loop.invariant.0 c.loop-i-test.false ∙ sym
     (leaves_length start.args.s start.args.n fs start.args.links.now)
 

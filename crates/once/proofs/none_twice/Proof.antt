@@ -33,21 +33,21 @@ leaf-marks-requires c κs =
 returns : tie.Need-returns-in_default invariant-loop decreases-loop
 returns c =
     let start = c.before.before.before.before.before.before.before.before in
-    let loop = c.before.before.before.before.before.loop-i in
+    let loop = c.loop-i in
     λ fs. some_twice start.args.s start.args.n fs start.args.links.now (start.requires.1 fs) loop.i loop.seen (loop.invariant.1 fs)
-    (c.before.before.leaf_marks.ensures fs) c.in_default.is c.before.before.before.loop-i-test.true
+    (c.leaf_marks.ensures fs) c.in_default.is c.loop-i-test.true
 
 loop-again : tie.Need-loop-i-preserved invariant-loop decreases-loop
 loop-again c =
     let start = c.before.before.before.before.before.before.before.before.before in
-    let loop = c.before.before.before.before.before.before.loop-i in
-    let leaf-marks = c.before.before.before.leaf_marks in
-    (omega arith, λ fs. leaves_turn (tree start fs) loop.i loop.seen (loop.invariant.1 fs) (leaf-marks.ensures fs) c.before.in-Apart.is)
+    let loop = c.loop-i in
+    let leaf-marks = c.leaf_marks in
+    (omega arith, λ fs. leaves_turn (tree start fs) loop.i loop.seen (loop.invariant.1 fs) (leaf-marks.ensures fs) c.in-Apart.is)
 
 returns-2 : tie.Need-returns invariant-loop decreases-loop
 returns-2 c =
     let start = c.before.before.before.before.before in
-    let loop = c.before.before.loop-i in
+    let loop = c.loop-i in
     λ fs. none_twice_lem start.args.s start.args.n fs start.args.links.now (start.requires.1 fs) loop.i loop.seen (loop.invariant.1 fs) loop.invariant.0
     c.loop-i-test.false
 

@@ -22,14 +22,14 @@ abbrev turn : tie.After-store invariant-loop decreases-loop → tie.At-loop-i in
 turn c = c.before.before.before.before
 
 loop-holds : tie.Need-loop-i-init invariant-loop decreases-loop
-loop-holds c = (omega arith, refl, no_slots c.before.args.s c.before.args.scratch.now)
+loop-holds c = (omega arith, refl, no_slots c.args.s c.args.scratch.now)
 
 store-requires : tie.Need-store-requires invariant-loop decreases-loop
 store-requires c κs =
     let start = c.before.before.before.before.before in
-    let loop = c.before.before.before.loop-i in
+    let loop = c.loop-i in
     let s = start.args.s in
-    let more = c.before.before.loop-i-test.true in (
+    let more = c.loop-i-test.true in (
       rw loop.invariant.1 (slot_there s loop.i _ start.requires.0 start.requires.2 (omega (arith, start.requires.1, more))),
       subst (Shaped s.feature s.dim) (sym c.empty.ensures) (blank_shaped s.feature s.dim),
     )
@@ -38,19 +38,19 @@ loop-again : tie.Need-loop-i-preserved invariant-loop decreases-loop
 loop-again c =
     let stored = c.before.before in
     let loop = (turn stored).loop-i in
-    let s = (turn stored).before.before.args.s in (
-      omega (arith, stored.before.before.before.loop-i-test.true),
-      stored.store.auto.1.0 ∙ loop.inv.1,
-      empty_more s loop.i _ loop.scratch _ stored.before.empty.ensures stored.store.ensures loop.inv.2,
+    let s = (turn stored).args.s in (
+      omega (arith, stored.loop-i-test.true),
+      stored.store.auto.floats ∙ loop.inv.1,
+      empty_more s loop.i _ loop.scratch _ stored.empty.ensures stored.store.ensures loop.inv.2,
     )
 
 same_length : tie.Need-shape_of-scratch invariant-loop decreases-loop
-same_length c = c.before.loop-i.invariant.1
+same_length c = c.loop-i.invariant.1
 
 returns : tie.Need-returns invariant-loop decreases-loop
 returns c =
-    let loop = c.before.loop-i in
-    let all : loop.i ≡ c.before.before.before.args.count = omega (arith, loop.invariant.0, c.loop-i-test.false) in
+    let loop = c.loop-i in
+    let all : loop.i ≡ c.args.count = omega (arith, loop.invariant.0, c.loop-i-test.false) in
     rw (sym all) loop.invariant.2
 
 pub empty_slots_spec : {M : Type 1} → statement M

@@ -28,15 +28,15 @@ loop-holds c = (omega arith, refl, λ ls. flags_start _ _)
 flag-used-requires : tie.Need-flag_used-requires invariant-loop decreases-loop
 flag-used-requires c κs =
     let start = c.before.before.before.before.before.before in
-    let loop = c.before.before.before.loop-i in
-    let more = c.before.loop-i-test.true in
+    let loop = c.loop-i in
+    let more = c.loop-i-test.true in
     (start.requires.0, more, omega (arith, start.requires.1, loop.invariant.1))
 
 loop-again : tie.Need-loop-i-preserved invariant-loop decreases-loop
 loop-again c =
     let flagged = c.before.before.before in
-    let more = flagged.before.before.loop-i-test.true in
-    let loop = flagged.before.before.before.before.loop-i in
+    let more = flagged.loop-i-test.true in
+    let loop = flagged.loop-i in
     let used = flagged.flag_used in
     let long = used.auto.1.1.1.0 ∙ loop.invariant.1 in
     elim c.if-not-flag_used.branch [
@@ -55,12 +55,12 @@ loop-again c =
     ]
 
 same_length : tie.Need-shape_of-numbers invariant-loop decreases-loop
-same_length c = c.before.before.loop-i.invariant.1
+same_length c = c.loop-i.invariant.1
 
 returns : tie.Need-returns invariant-loop decreases-loop
 returns c =
-    let a = c.before.before.before.before.before.args in
-    let loop = c.before.before.loop-i in
+    let a = c.args in
+    let loop = c.loop-i in
     let end : loop.i ≡ a.n.entries = omega (arith, loop.invariant.0, c.loop-i-test.false) in (
       λ ls. flags_all a.s a.n a.floats.now ls loop.i loop.numbers loop.all (loop.invariant.2 ls) end,
       (loop.invariant.2 []).whole ∙ ap (λ k. every (λ b. b) (alive_in loop.numbers k)) end,

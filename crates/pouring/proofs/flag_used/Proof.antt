@@ -12,7 +12,7 @@ returns : tie.Need-returns-then-weight
 unfolding used
 returns c =
     let start = c.before.before.before.before in (
-      λ ls. sym c.if-weight.true ∙ ap (lt f0) (c.before.weight.ensures ls),
+      λ ls. sym c.if-weight.true ∙ ap (lt f0) (c.weight.ensures ls),
       flagged start.args.numbers.now start.args.i 1 start.requires.2,
     )
 
@@ -20,7 +20,7 @@ returns-2 : tie.Need-returns
 unfolding used
 returns-2 c =
     let start = c.before.before.before.before in (
-      λ ls. sym c.if-weight.false ∙ ap (lt f0) (c.before.weight.ensures ls),
+      λ ls. sym c.if-weight.false ∙ ap (lt f0) (c.weight.ensures ls),
       flagged start.args.numbers.now start.args.i 0 start.requires.2,
     )
 

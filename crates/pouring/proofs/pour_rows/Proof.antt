@@ -39,7 +39,7 @@ wide : (c : tie.After-row-x invariant-loop decreases-loop) → length c.row-x.re
 wide c =
     let start = start (turn c) in
     let a = start.args in
-    let there = row_there a.s a.count (turn c).loop-k.k (length a.rows.now) c.before.loop-k-test.true start.requires.dim_in_bounds.0 in
+    let there = row_there a.s a.count (turn c).loop-k.k (length a.rows.now) c.loop-k-test.true start.requires.1.0 in
     ap length c.row-x.ensures ∙ row_wide a.s a.rows.now (turn c).loop-k.k there
 
 loop-holds : tie.Need-loop-k-init invariant-loop decreases-loop
@@ -51,20 +51,20 @@ loop-holds c =
 row-requires : tie.Need-row-x-requires invariant-loop decreases-loop
 row-requires c κs =
     let start = start c.before in
-    row_there start.args.s start.args.count c.before.loop-k.k (length start.args.rows.now) c.loop-k-test.true start.requires.dim_in_bounds.0
+    row_there start.args.s start.args.count c.loop-k.k (length start.args.rows.now) c.loop-k-test.true start.requires.1.0
 
 route-requires : tie.Need-route-e-requires invariant-loop decreases-loop
 route-requires c κs =
     let start = start (turn c) in
-    ((start.requires.floats.0, start.requires.floats.1, omega (arith, wide c)), start.requires.dim_in_bounds.1)
+    ((start.requires.0.0, start.requires.0.1, omega (arith, wide c)), start.requires.1.1)
 
 push-requires : tie.Need-push-requires invariant-loop decreases-loop
 push-requires c κs =
     let read = c.before.before in
     let start = start (turn read) in
-    let here = c.before.route-e.ensures.upper_bound in (
+    let here = c.route-e.ensures.upper_bound in (
       rw (turn read).loop-k.invariant.0
-          (slot_there start.args.s _ _ start.requires.floats.0.sized start.requires.floats.2 (omega (arith, here, start.requires.floats.0.entries_in))),
+          (slot_there start.args.s _ _ start.requires.0.0.sized start.requires.0.2 (omega (arith, here, start.requires.0.0.entries_in))),
       omega (arith, wide read),
     )
 
@@ -76,18 +76,18 @@ loop-again c =
     let loop = (turn read).loop-k in
     let start = start (turn read) in
     let a = start.args in (
-      push.push.auto.1.0 ∙ loop.inv.0,
-      pour_turn a.s a.n (tree start) a.rows.now a.count loop.k _ _ loop.scratch _ read.before.loop-k-test.true
+      push.push.auto.floats ∙ loop.inv.0,
+      pour_turn a.s a.n (tree start) a.rows.now a.count loop.k _ _ loop.scratch _ read.loop-k-test.true
           route.route-e.ensures.upper_bound read.row-x.ensures route.route-e.ensures.value push.push.ensures
           ∙ loop.inv.1,
     )
 
 same_length : tie.Need-shape_of-scratch invariant-loop decreases-loop
-same_length c = c.before.loop-k.invariant.0
+same_length c = c.loop-k.invariant.0
 
 returns : tie.Need-returns invariant-loop decreases-loop
 returns c =
-    let loop = c.before.loop-k in
+    let loop = c.loop-k in
     let start = start c.before in
     let a = start.args in
     pour_end a.s a.n (tree start) a.rows.now a.count loop.k loop.scratch c.loop-k-test.false ∙ loop.invariant.1

@@ -18,39 +18,39 @@ abbrev decreases-loop : tie.decreases-loop-i
 decreases-loop s n floats₀ scratch i₀ floats i = n.entries - i
 
 loop-holds : tie.Need-loop-i-init invariant-loop decreases-loop
-loop-holds c = let a = c.before.before.args in (refl, put_start a.s a.n a.floats.now a.scratch.now)
+loop-holds c = let a = c.args in (refl, put_start a.s a.n a.floats.now a.scratch.now)
 
 load-requires : tie.Need-load-requires invariant-loop decreases-loop
 load-requires c κs =
     let start = c.before.before.before.before.before.before in
-    slot_there _ _ _ start.requires.0.sized start.requires.1 (omega (arith, c.before.loop-i-test.true, start.requires.0.entries_in))
+    slot_there _ _ _ start.requires.0.sized start.requires.1 (omega (arith, c.loop-i-test.true, start.requires.0.entries_in))
 
 put-requires : tie.Need-put-requires invariant-loop decreases-loop
 put-requires c κs =
     let start = c.before.before.before.before.before.before.before in
     let s = start.args.s in (
-      rw c.before.before.before.before.loop-i.invariant.0 start.requires.0,
-      c.before.before.loop-i-test.true,
+      rw c.loop-i.invariant.0 start.requires.0,
+      c.loop-i-test.true,
       subst (Shaped s.feature s.dim) (sym c.load.ensures) (slot_shaped s start.requires.0.sized start.args.scratch.now _),
     )
 
 loop-again : tie.Need-loop-i-preserved invariant-loop decreases-loop
 loop-again c =
     let put = c.before.before in
-    let loop = put.before.before.before.before.before.loop-i in
-    let a = put.before.before.before.before.before.before.before.before.args in (
-      put.put.auto.1.1.0 ∙ loop.invariant.0,
-      put_turn a.s a.n a.floats.now a.scratch.now loop.i loop.floats loop.invariant.1 _ _ put.before.before.before.loop-i-test.true
-          put.before.load.ensures put.put.ensures,
+    let loop = put.loop-i in
+    let a = put.args in (
+      put.put.auto.floats ∙ loop.invariant.0,
+      put_turn a.s a.n a.floats.now a.scratch.now loop.i loop.floats loop.invariant.1 _ _ put.loop-i-test.true
+          put.load.ensures put.put.ensures,
     )
 
 same_length : tie.Need-shape_of-floats invariant-loop decreases-loop
-same_length c = c.before.before.loop-i.invariant.0
+same_length c = c.loop-i.invariant.0
 
 returns : tie.Need-returns invariant-loop decreases-loop
 returns c =
-    let a = c.before.before.before.before.before.args in
-    let loop = c.before.before.loop-i in
+    let a = c.args in
+    let loop = c.loop-i in
     put_end a.s a.n a.floats.now a.scratch.now loop.i loop.floats loop.invariant.1 c.loop-i-test.false
 
 pub put_back_spec : {M : Type 1} → statement M

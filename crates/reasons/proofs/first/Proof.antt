@@ -14,33 +14,33 @@ returns c = rw (lt-leb _ _ c.if-line-gt-MOST.true)
 
 returns-2 : tie.Need-returns-then-ends_in_return
 unfolding first_reason reason_of
-returns-2 c = rw (le-leb _ _ c.before.before.if-line-gt-MOST.false, ← c.before.ends_in_return.ensures, c.if-ends_in_return.true)
+returns-2 c = rw (le-leb _ _ c.if-line-gt-MOST.false, ← c.ends_in_return.ensures, c.if-ends_in_return.true)
 
 returns-3 : tie.Need-returns-then-n-ne8
 unfolding first_reason reason_of
 returns-3 c =
-    let count = c.before.field_count-n.ensures in
+    let count = c.field_count-n.ensures in
     rw (
       count,
-      le-leb _ _ c.before.before.before.before.if-line-gt-MOST.false,
-      ← c.before.before.before.ends_in_return.ensures,
-      c.before.before.if-ends_in_return.false,
+      le-leb _ _ c.if-line-gt-MOST.false,
+      ← c.ends_in_return.ensures,
+      c.if-ends_in_return.false,
       ne_eqb _ _ (λ e. c.if-n-ne8.true (count ∙ e)),
     )
 
 -- the fields are eight
-eight : (c : tie.Else-n-ne8) → length (fields_of c.before.before.before.before.before.before.args.line.now) ≡ 8
-eight c = sym c.before.field_count-n.ensures ∙ c.if-n-ne8.false
+eight : (c : tie.Else-n-ne8) → length (fields_of c.args.line.now) ≡ 8
+eight c = sym c.field_count-n.ensures ∙ c.if-n-ne8.false
 
 returns-4 : tie.Need-returns-then-k-lt8
 unfolding first_reason reason_of
 returns-4 c =
     rw (
-      le-leb _ _ c.before.before.before.before.before.before.if-line-gt-MOST.false,
-      ← c.before.before.before.before.before.ends_in_return.ensures,
-      c.before.before.before.before.if-ends_in_return.false,
+      le-leb _ _ c.if-line-gt-MOST.false,
+      ← c.ends_in_return.ensures,
+      c.if-ends_in_return.false,
       eq-eqb _ _ (eight c.before.before),
-      ← c.before.settings-k.ensures,
+      ← c.settings-k.ensures,
       lt-ltb _ _ c.if-k-lt8.true,
     )
 
@@ -48,11 +48,11 @@ returns-5 : tie.Need-returns
 unfolding first_reason reason_of
 returns-5 c =
     rw (
-      le-leb _ _ c.before.before.before.before.before.before.if-line-gt-MOST.false,
-      ← c.before.before.before.before.before.ends_in_return.ensures,
-      c.before.before.before.before.if-ends_in_return.false,
+      le-leb _ _ c.if-line-gt-MOST.false,
+      ← c.ends_in_return.ensures,
+      c.if-ends_in_return.false,
       eq-eqb _ _ (eight c.before.before),
-      ← c.before.settings-k.ensures,
+      ← c.settings-k.ensures,
       le-ltb _ _ c.if-k-lt8.false,
     )
 

@@ -21,27 +21,27 @@ loop-holds : tie.Need-loop-k-init invariant-loop decreases-loop
 loop-holds c = (search rules, refl)
 
 -- whether field k is as asked
-is : (c : tie.After-is_float invariant-loop decreases-loop) → let loop = c.before.before.before.loop-k in
-    float_at loop.k (get_or (fields_of c.before.before.before.before.before.args.line.now) loop.k []) ≡ c.is_float.result
+is : (c : tie.After-is_float invariant-loop decreases-loop) → let loop = c.loop-k in
+    float_at loop.k (get_or (fields_of c.args.line.now) loop.k []) ≡ c.is_float.result
 unfolding float_at
-is c = sym (c.is_float.ensures ∙ ap (λ f. is_some (hex_float f)) c.before.field.ensures)
+is c = sym (c.is_float.ensures ∙ ap (λ f. is_some (hex_float f)) c.field.ensures)
 
 returns : tie.Need-returns-then-not-is_float invariant-loop decreases-loop
 returns c =
-    let loop = c.before.before.before.before.loop-k in
-    let pre = c.before.before.before.before.before.before.requires in
+    let loop = c.loop-k in
+    let pre = c.requires in
     sym (wrong_stop float_at _ loop.k (omega (arith, pre)) (is c.before ∙ not-true _ c.if-not-is_float.true-raw)) ∙ loop.invariant.1
 
 loop-again : tie.Need-loop-k-preserved invariant-loop decreases-loop
 loop-again c =
-    let loop = c.before.before.before.before.loop-k in
-    let pre = c.before.before.before.before.before.before.requires in
+    let loop = c.loop-k in
+    let pre = c.requires in
     (omega arith, wrong_more float_at _ loop.k (omega (arith, pre)) (is c.before ∙ not-false _ c.if-not-is_float.false-raw) ∙ loop.invariant.1)
 
 returns-2 : tie.Need-returns invariant-loop decreases-loop
 returns-2 c =
-    let loop = c.before.loop-k in
-    let pre = c.before.before.before.requires in
+    let loop = c.loop-k in
+    let pre = c.requires in
     sym (wrong_end float_at _ loop.k (omega (arith, pre))) ∙ loop.invariant.1
 
 pub floats_spec : {M : Type 1} → statement M

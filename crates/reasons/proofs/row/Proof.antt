@@ -11,17 +11,17 @@ returns c = rw (lt-leb _ _ c.if-line-gt-MOST.true)
 
 returns-2 : tie.Need-returns-then-ends_in_return
 unfolding row_reason reason_of
-returns-2 c = rw (le-leb _ _ c.before.before.if-line-gt-MOST.false, ← c.before.ends_in_return.ensures, c.if-ends_in_return.true)
+returns-2 c = rw (le-leb _ _ c.if-line-gt-MOST.false, ← c.ends_in_return.ensures, c.if-ends_in_return.true)
 
 returns-3 : tie.Need-returns-then-k-n
 unfolding row_reason reason_of
 returns-3 c =
     rw (
-      le-leb _ _ c.before.before.before.before.before.if-line-gt-MOST.false,
-      ← c.before.before.before.before.ends_in_return.ensures,
-      c.before.before.before.if-ends_in_return.false,
-      ← c.before.before.field_count-n.ensures,
-      ← c.before.floats-k.ensures,
+      le-leb _ _ c.if-line-gt-MOST.false,
+      ← c.ends_in_return.ensures,
+      c.if-ends_in_return.false,
+      ← c.field_count-n.ensures,
+      ← c.floats-k.ensures,
       lt-ltb _ _ c.if-k-n.true,
     )
 
@@ -29,11 +29,11 @@ returns-4 : tie.Need-returns
 unfolding row_reason reason_of
 returns-4 c =
     rw (
-      le-leb _ _ c.before.before.before.before.before.if-line-gt-MOST.false,
-      ← c.before.before.before.before.ends_in_return.ensures,
-      c.before.before.before.if-ends_in_return.false,
-      ← c.before.before.field_count-n.ensures,
-      ← c.before.floats-k.ensures,
+      le-leb _ _ c.if-line-gt-MOST.false,
+      ← c.ends_in_return.ensures,
+      c.if-ends_in_return.false,
+      ← c.field_count-n.ensures,
+      ← c.floats-k.ensures,
       le-ltb _ _ c.if-k-n.false,
     )
 

@@ -29,30 +29,30 @@ reinsert-requires c κs =
     let zero = zeroed.with_merged.ensures in
     let same = zero_same drop.result zeroed.with_merged.result zero in
     let left = drop.ensures.0 in
-    let numbers = start.requires.floats.2.numbers_in in
+    let numbers = start.requires.0.2.numbers_in in
     let kept = drop.kept.1.1.1.1.0 in (
       (
         rw drop.kept.1.1.0
-            (floats_as a.s drop.result _ same (floats-kept a.s a.n drop.result a.numbers.now left start.requires.floats.0)),
+            (floats_as a.s drop.result _ same (floats-kept a.s a.n drop.result a.numbers.now left start.requires.0.0)),
         rw drop.kept.1.1.1.0
-            (links_as a.s drop.result _ same (links_kept a.s a.n drop.result a.numbers.now left start.requires.floats.1)),
+            (links_as a.s drop.result _ same (links_kept a.s a.n drop.result a.numbers.now left start.requires.0.1)),
       ),
       (
-        (start.requires.floats.2.floats_in_lem, omega arith),
+        (start.requires.0.2.floats_in_lem, omega arith),
         subst (Reinsertable a.s) (sym (merged-zero a.s _ _ drop.result zeroed.with_merged.result zero ∙ ap (on_running (with_merged 0)) drop.ensures.1))
-            start.requires.compactable.again,
+            start.requires.1.again,
       ),
     )
 
 returns : tie.Need-returns-then-due
 returns c =
-    let due = c.before.before.before.before.before.before.before.before.before.before.before.before.before.before.before.due in
-    let test = c.before.before.before.before.before.before.before.before.before.before.before.before.before.before.if-due in
+    let due = c.due in
+    let test = c.if-due in
     let zeroed = c.before.before.before.before.before.before.before.before.before.before.before.before.before in
     let dropped = dropping zeroed in
     let drop = dropped.drop_merged-m in
     let a = (start dropped).args in
-    let new = c.before.before.before.before.before.before.before.before.reinsert in (
+    let new = c.reinsert in (
       (rw drop.kept.1.1.0 at new.ensures.0.0, rw drop.kept.1.1.1.0 at new.ensures.0.1),
       placed-again a.s a.across drop.result _ _ drop.ensures.1 zeroed.with_merged.result (sym due.ensures ∙ test.true)
           zeroed.with_merged.ensures new.ensures.1,
@@ -62,12 +62,12 @@ returns-2 : tie.Need-returns
 returns-2 c =
     let start = c.before.before.before.before.before.before.before.before.before.before.before.before.before.before.before.before in
     let a = start.args in
-    let drop = c.before.before.before.before.before.before.before.before.drop_merged-m in (
+    let drop = c.drop_merged-m in (
       (
-        floats-kept a.s a.n drop.result a.numbers.now drop.ensures.0 start.requires.floats.0,
-        links_kept a.s a.n drop.result a.numbers.now drop.ensures.0 start.requires.floats.1,
+        floats-kept a.s a.n drop.result a.numbers.now drop.ensures.0 start.requires.0.0,
+        links_kept a.s a.n drop.result a.numbers.now drop.ensures.0 start.requires.0.1,
       ),
-      left-placed a.s a.across drop.result _ _ drop.ensures.1 (sym c.before.due.ensures ∙ c.if-due.false),
+      left-placed a.s a.across drop.result _ _ drop.ensures.1 (sym c.due.ensures ∙ c.if-due.false),
     )
 
 pub compact_spec : {M : Type 1} → statement M

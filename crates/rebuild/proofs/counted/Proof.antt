@@ -7,7 +7,7 @@ use Rattle.rebuild.proofs.counted.Statement.{statement}
 use Rattle.rebuild.proofs.counted.Tie as tie
 
 returns : tie.Need-returns-then-r-lt18446744073709551615
-returns c = c.with_rebuilds.ensures ∙ counted_more _ (lt-ltb _ _ c.before.if-r-lt18446744073709551615.true)
+returns c = c.with_rebuilds.ensures ∙ counted_more _ (lt-ltb _ _ c.if-r-lt18446744073709551615.true)
 
 returns-2 : tie.Need-returns-else-r-lt18446744073709551615
 returns-2 c = counted_top _ (le-ltb _ _ c.if-r-lt18446744073709551615.false)

@@ -22,7 +22,7 @@ siblings c = c.before.before.before.before.before.before.before.before.before.be
 sibling-pairs-requires : tie.Need-sibling_pairs-near-requires
 sibling-pairs-requires c κs =
     let start = c.before.before.before.before.before.before.before.before in
-    ((start.requires.floats.0, start.requires.floats.1, tree_framed start.args.s (tree start) start.requires.rebuildable), pairs_room start.args.s start.requires.floats.2)
+    ((start.requires.0.0, start.requires.0.1, tree_framed start.args.s (tree start) start.requires.1), pairs_room start.args.s start.requires.0.2)
 
 merge-by-requires : tie.Need-merge_by-requires
 merge-by-requires c κs =
@@ -30,20 +30,20 @@ merge-by-requires c κs =
     let start = start paired in
     let a = start.args in
     let near = paired.sibling_pairs-near in (
-      (start.requires.floats.0, start.requires.floats.1, rw (near.auto.1.1.1.1.0, near.auto.1.1.1.1.1.0) start.requires.floats.2),
+      (start.requires.0.0, start.requires.0.1, rw (near.auto.1.1.1.1.0, near.auto.1.1.1.1.1.0) start.requires.0.2),
       record {
-        tree = start.requires.rebuildable;
+        tree = start.requires.1;
         pairs_few = near.ensures.1;
-        far = rw near.ensures.0 (siblings-far a.s (tree start) start.requires.rebuildable);
+        far = rw near.ensures.0 (siblings-far a.s (tree start) start.requires.1);
       },
     )
 
 returns : tie.Need-returns-then-near-gt0
 returns c =
-    let test = c.before.before.before.before.before.before.before.before.before.before.before.before.before.if-near-gt0 in
+    let test = c.if-near-gt0 in
     let paired = c.before.before.before.before.before.before.before.before.before.before.before.before.before.before.before.before.before.before in
     let start = start paired in
-    let new = c.before.before.before.before.before.before.before.before.merge_by in
+    let new = c.merge_by in
     (new.ensures.0, new.ensures.1 ∙ by_siblings start.args.s (tree start) _ _ _ paired.sibling_pairs-near.ensures.result_after test.true)
 
 cousin-pairs-requires : tie.Need-cousin_pairs-far-requires
@@ -51,8 +51,8 @@ cousin-pairs-requires c κs =
     let paired = c.before.before.before.before.before.before.before.before.before in
     let start = start paired in
     let near = paired.sibling_pairs-near in (
-      (start.requires.floats.0, start.requires.floats.1, tree_framed start.args.s (tree start) start.requires.rebuildable),
-      rw (near.auto.1.1.1.1.0, near.auto.1.1.1.1.1.0) (pairs_room start.args.s start.requires.floats.2),
+      (start.requires.0.0, start.requires.0.1, tree_framed start.args.s (tree start) start.requires.1),
+      rw (near.auto.1.1.1.1.0, near.auto.1.1.1.1.1.0) (pairs_room start.args.s start.requires.0.2),
     )
 
 merge-by-requires-2 : tie.Need-merge_by-requires-2
@@ -64,15 +64,15 @@ merge-by-requires-2 c κs =
     let near = paired.sibling_pairs-near in
     let far = again.cousin_pairs-far in (
       (
-        start.requires.floats.0,
-        start.requires.floats.1,
+        start.requires.0.0,
+        start.requires.0.1,
         rw (far.auto.1.1.1.1.0, far.auto.1.1.1.1.1.0, near.kept.1.1.1.1.0, near.kept.1.1.1.1.1.0)
-            start.requires.floats.2,
+            start.requires.0.2,
       ),
       record {
-        tree = start.requires.rebuildable;
+        tree = start.requires.1;
         pairs_few = far.ensures.1;
-        far = rw far.ensures.0 (cousins-all a.s (tree start) start.requires.rebuildable);
+        far = rw far.ensures.0 (cousins-all a.s (tree start) start.requires.1);
       },
     )
 
@@ -81,10 +81,10 @@ returns-2 c =
     let again = c.before.before.before.before.before.before.before.before.before.before.before.before.before.before.before.before.before in
     let paired = siblings again in
     let start = start paired in
-    let new = c.before.before.before.before.before.before.before.before.merge_by-2 in (
+    let new = c.merge_by-2 in (
       new.ensures.0,
       new.ensures.1 ∙ by_cousins start.args.s (tree start) _ _ _ paired.sibling_pairs-near.ensures.result_after
-          again.before.before.before.before.before.if-near-gt0.false _ again.cousin_pairs-far.ensures.result_after,
+          again.if-near-gt0.false _ again.cousin_pairs-far.ensures.result_after,
     )
 
 pub merge_spec : {M : Type 1} → statement M

@@ -20,27 +20,27 @@ merge-cheapest-requires : tie.Need-merge_cheapest-w-requires
 merge-cheapest-requires c κs =
     let start = c.before.before.before.before.before.before.before in
     let a = start.args in
-    let tree = start.requires.mergeable.tree in
+    let tree = start.requires.1.tree in
     let entries = count_entries_lem a.s a.n a.floats.now a.links.now in
     let more = tree.more in
-    ((start.requires.floats.0, start.requires.floats.2, start.requires.mergeable.pairs_few), (omega arith, rw entries at start.requires.mergeable.far))
+    ((start.requires.0.0, start.requires.0.2, start.requires.1.pairs_few), (omega arith, rw entries at start.requires.1.far))
 
 returns : tie.Need-returns-then-w-eq0
 returns c =
     let start = c.before.before.before.before.before.before.before.before.before.before.before.before.before.before.before.before in
-    let merge-cheapest = c.before.before.before.before.before.before.before.before.merge_cheapest-w in
+    let merge-cheapest = c.merge_cheapest-w in
     let a = start.args in (
-      (start.requires.floats.0, start.requires.floats.1),
+      (start.requires.0.0, start.requires.0.1),
       merged-none a.s a.n _ merge-cheapest.result a.floats.now _ _ a.links.now merge-cheapest.ensures a.across c.if-w-eq0.true,
     )
 
 merged-requires : tie.Need-merged-requires
 merged-requires c κs =
     let start = c.before.before.before.before.before.before.before.before.before.before.before.before.before.before.before.before in
-    let merge-cheapest = c.before.before.before.before.before.before.before.before.merge_cheapest-w in
+    let merge-cheapest = c.merge_cheapest-w in
     let a = start.args in
-    total-few a.s a.n a.pairs _ merge-cheapest.result a.floats.now _ _ a.links.now start.requires.mergeable merge-cheapest.ensures
-    start.requires.floats.0.sized
+    total-few a.s a.n a.pairs _ merge-cheapest.result a.floats.now _ _ a.links.now start.requires.1 merge-cheapest.ensures
+    start.requires.0.0.sized
 
 compact-requires : tie.Need-compact-requires
 compact-requires c κs =
@@ -51,24 +51,24 @@ compact-requires c κs =
     let done = all.merge_cheapest-w in
     let new = merged.merged.ensures in
     let same = merged-same a.n merged.merged.result done.result new in
-    let room = start.requires.floats.2 in (
+    let room = start.requires.0.2 in (
       (
-        rw done.kept.1.1.0 (floats_as a.s a.n _ same start.requires.floats.0),
-        links_as a.s a.n _ same start.requires.floats.1,
+        rw done.kept.1.1.0 (floats_as a.s a.n _ same start.requires.0.0),
+        links_as a.s a.n _ same start.requires.0.1,
         rw (done.kept.1.1.1.0, done.kept.1.1.1.1.0) room,
       ),
-      merges_compactable a.s a.n a.pairs _ done.result a.floats.now _ _ a.links.now start.requires.mergeable done.ensures
+      merges_compactable a.s a.n a.pairs _ done.result a.floats.now _ _ a.links.now start.requires.1 done.ensures
           merged.merged.result new,
     )
 
 returns-2 : tie.Need-returns
 returns-2 c =
-    let test = c.before.before.before.before.before.before.before.before.before.before.before.before.before.before.if-w-eq0 in
+    let test = c.if-w-eq0 in
     let merged = c.before.before.before.before.before.before.before.before.before.before.before.before.before in
     let all = merging merged in
     let a = (start all).args in
     let done = all.merge_cheapest-w in
-    let new = c.before.before.before.before.before.before.before.before.compact in (
+    let new = c.compact in (
       (rw done.kept.1.1.0 at new.ensures.0.0, new.ensures.0.1),
       new.ensures.1
           ∙ merged_some a.s a.n _ done.result a.floats.now _ _ a.links.now done.ensures merged.merged.result a.across

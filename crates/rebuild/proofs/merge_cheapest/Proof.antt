@@ -13,27 +13,27 @@ start c = c.before.before.before.before.before.before
 sort-requires : tie.Need-sort-requires
 sort-requires c κs =
     let start = c.before.before.before.before.before in
-    some_room start.args.s start.requires.floats.1 start.args.pairs start.requires.floats.2
+    some_room start.args.s start.requires.0.1 start.args.pairs start.requires.0.2
 
 merge-pairs-requires : tie.Need-merge_pairs-requires
 merge-pairs-requires c κs =
-    let revive = c.before.before.before.before.before.revive in
+    let revive = c.revive in
     let paired = c.before.before.before.before.before.before.before.before.before.before.before in
     let start = start paired in
-    let room = (some_room start.args.s start.requires.floats.1 start.args.pairs start.requires.floats.2).numbers_in in
-    let all = start.requires.floats.1.numbers_in in
-    let entries = start.requires.floats.0.entries_in in
-    let first = paired.sort.auto.1.0 in
+    let room = (some_room start.args.s start.requires.0.1 start.args.pairs start.requires.0.2).numbers_in in
+    let all = start.requires.0.1.numbers_in in
+    let entries = start.requires.0.0.entries_in in
+    let first = paired.sort.auto.numbers in
     let second = revive.auto.0 in (
-      (start.requires.floats.0, omega arith, omega arith),
-      sorted-below start.args.s start.args.n _ start.args.pairs _ _ _ paired.sort.ensures revive.ensures.1 start.requires.max_leaves_bound.1,
+      (start.requires.0.0, omega arith, omega arith),
+      sorted-below start.args.s start.args.n _ start.args.pairs _ _ _ paired.sort.ensures revive.ensures.1 start.requires.1.1,
     )
 
 returns : tie.Need-returns
 returns c =
-    let revive = c.before.before.before.before.before.before.before.before.before.before.revive in
-    let wanted = c.before.before.before.before.before.wanted in
-    let merge-pairs = c.before.before.before.before.merge_pairs in
+    let revive = c.revive in
+    let wanted = c.wanted in
+    let merge-pairs = c.merge_pairs in
     let paired = c.before.before.before.before.before.before.before.before.before.before.before.before.before.before.before.before in
     let start = start paired in
     all-merged start.args.s start.args.n _ start.args.pairs _ _ _ paired.sort.ensures revive.ensures.1 _ merge-pairs.result _ _ _

@@ -10,8 +10,8 @@ use Rattle.rebuild.proofs.merged.Tie as tie
 returns : tie.Need-returns
 unfolding merged_counts count_running merges_on
 returns c =
-    let grown = c.before.before.before.before.grown-threshold in
-    c.with_merged.ensures ∙ rw (c.before.before.before.with_threshold.ensures, grown.ensures)
+    let grown = c.grown-threshold in
+    c.with_merged.ensures ∙ rw (c.with_threshold.ensures, grown.ensures)
 
 pub merged_spec : {M : Type 1} → statement M
 merged_spec = tie.close (tie.spec (λ c κs. search rules) (λ c κs. search rules) (λ c. search rules) (λ c κs. search rules) returns)

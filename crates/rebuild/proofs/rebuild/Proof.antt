@@ -23,18 +23,18 @@ refold-requires c κs =
     let start = start merged in
     let s = start.args.s in
     let done = merged.merge-m in
-    let stands = merged-standing s (tree start) start.requires.rebuildable start.requires.floats.0.sized in (
+    let stands = merged-standing s (tree start) start.requires.1 start.requires.0.0.sized in (
       (
         rw done.auto.1.1.0 done.ensures.0.0,
         rw done.auto.1.1.1.0 done.ensures.0.1,
-        rw done.auto.1.1.1.1.0 start.requires.floats.2.floats_in_lem,
+        rw done.auto.1.1.1.1.0 start.requires.0.2.floats_in_lem,
       ),
       rw done.ensures.1 stands,
     )
 
 returns : tie.Need-returns
 returns c =
-    let refold = c.before.before.before.before.before.refold in
+    let refold = c.refold in
     let merged = c.before.before.before.before.before.before.before.before.before.before.before.before.before.before.before.before.before
     in
     let start = start merged in
@@ -43,7 +43,7 @@ returns c =
     let count = c.counted.ensures in
     let same = counted_same done.result c.counted.result count in (
       (floats_as s done.result _ same done.ensures.0.0, links_as s done.result _ same done.ensures.0.1),
-      rebuilt-is s (tree start) start.requires.rebuildable done.result c.counted.result _ _ count (refold.ensures ∙ ap (refolded s) done.ensures.1),
+      rebuilt-is s (tree start) start.requires.1 done.result c.counted.result _ _ count (refold.ensures ∙ ap (refolded s) done.ensures.1),
     )
 
 pub rebuild_spec : {M : Type 1} → statement M

@@ -31,26 +31,26 @@ entries c = count_entries_lem c.args.s c.args.n c.args.floats.now c.args.links.n
 pourable : (c : tie.Else-count-eq0) → Pourable (start c).args.s (start c).args.count (tree (start c))
 pourable c =
     let start = start c in
-    refit_pourable start.args.s start.args.count (tree start) start.requires.dim_in_bounds.1 (omega (arith, entries start, c.before.if-n-eq0.false))
+    refit_pourable start.args.s start.args.count (tree start) start.requires.1.1 (omega (arith, entries start, c.if-n-eq0.false))
     (omega (arith, c.if-count-eq0.false))
 
 returns : tie.Need-returns-then-n-eq0
 returns c =
     let start = c.before.before.before.before.before.before.before in
     let a = start.args in
-    ((start.requires.floats.0, start.requires.floats.1), refit_bare a.s a.count a.rows.now (tree start) (entries start ∙ c.if-n-eq0.true))
+    ((start.requires.0.0, start.requires.0.1), refit_bare a.s a.count a.rows.now (tree start) (entries start ∙ c.if-n-eq0.true))
 
 returns-2 : tie.Need-returns-then-count-eq0
 returns-2 c =
     let start = c.before.before.before.before.before.before.before.before in
     let a = start.args in
-    ((start.requires.floats.0, start.requires.floats.1), refit_none a.s a.count a.rows.now (tree start) c.if-count-eq0.true)
+    ((start.requires.0.0, start.requires.0.1), refit_none a.s a.count a.rows.now (tree start) c.if-count-eq0.true)
 
 rounds-requires : tie.Need-rounds-m-requires
 rounds-requires c κs =
     let tests = c.before.before.before.before in
     let start = start tests in
-    (start.requires.floats, (start.requires.dim_in_bounds.0, pourable tests))
+    (start.requires.0, (start.requires.1.0, pourable tests))
 
 refold-requires : tie.Need-refold-requires
 refold-requires c κs =
@@ -62,10 +62,10 @@ refold-requires c κs =
       (
         rw done.auto.1.1.0 done.ensures.0.0,
         rw done.auto.1.1.1.0 done.ensures.0.1,
-        rw done.auto.1.1.1.1.0 start.requires.floats.2.floats_in_lem,
+        rw done.auto.1.1.1.1.0 start.requires.0.2.floats_in_lem,
       ),
-      rounds_standing a.s a.count a.rows.now (tree start) a.n.entries start.requires.floats.0.sized (pourable tests) (sym (entries start))
-          (omega (arith, tests.before.if-n-eq0.false)) start.requires.floats.0.entries_in done.ensures.1,
+      rounds_standing a.s a.count a.rows.now (tree start) a.n.entries start.requires.0.0.sized (pourable tests) (sym (entries start))
+          (omega (arith, tests.if-n-eq0.false)) start.requires.0.0.entries_in done.ensures.1,
     )
 
 returns-3 : tie.Need-returns
@@ -77,7 +77,7 @@ returns-3 c =
     let a = start.args in
     let done = rounds.rounds-m in (
       done.ensures.0,
-      refit_is a.s a.count a.rows.now (tree start) a.n.entries tests.before.if-n-eq0.false tests.if-count-eq0.false (sym (entries start))
+      refit_is a.s a.count a.rows.now (tree start) a.n.entries tests.if-n-eq0.false tests.if-count-eq0.false (sym (entries start))
           (refold.refold.ensures ∙ ap (refolded a.s) done.ensures.1),
     )
 

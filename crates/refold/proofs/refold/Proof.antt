@@ -32,32 +32,32 @@ abbrev tree : tie.Start invariant-loop decreases-loop → Tree
 tree c = tree_of c.args.s c.args.n c.args.floats.now c.args.links.now
 
 -- node i of the walk is there
-here : (c : tie.At-loop-left invariant-loop decreases-loop) → c.loop-left.i < c.before.before.before.before.before.args.n.nodes
+here : (c : tie.At-loop-left invariant-loop decreases-loop) → c.loop-left.i < c.args.n.nodes
 here c =
     let start = c.before.before.before.before.before in
     rw (count_nodes_lem start.args.s start.args.n start.args.floats.now start.args.links.now) at
-    (back_in start.args.s (tree start) start.requires.standing.0 c.loop-left.invariant.1)
+    (back_in start.args.s (tree start) start.requires.1.0 c.loop-left.invariant.1)
 
 -- what is left after node i, whose parent p was found
 next : (c : tie.In-Node invariant-loop decreases-loop) → Next
-    c.before.before.before.before.before.before.before.before.before.before.before.before.before.before.before.before.before.args.s
+    c.args.s
     (tree c.before.before.before.before.before.before.before.before.before.before.before.before.before.before.before.before.before)
-    c.before.before.before.before.before.before.before.before.before.before.before.before.before.before.before.before.before.requires.standing.0
-    c.before.before.before.before.before.before.before.before.before.before.before.before.loop-left.i c.before.in-Node.p-1
-    c.before.before.before.before.before.before.before.before.before.before.before.before.loop-left.invariant.0
+    c.requires.1.0
+    c.loop-left.i c.in-Node.p-1
+    c.loop-left.invariant.0
 next c =
     let start = c.before.before.before.before.before.before.before.before.before.before.before.before.before.before.before.before.before in
-    let loop = c.before.before.before.before.before.before.before.before.before.before.before.before.loop-left in
-    back_next start.args.s (tree start) start.requires.standing.0 _ loop.invariant.1
-    (sym (c.before.before.before.parent.ensures start.args.floats.now) ∙ a_parent _ _ c.before.in-Node.is)
+    let loop = c.loop-left in
+    back_next start.args.s (tree start) start.requires.1.0 _ loop.invariant.1
+    (sym (c.parent.ensures start.args.floats.now) ∙ a_parent _ _ c.in-Node.is)
 
 last-requires : tie.Need-last-i-requires invariant-loop decreases-loop
 last-requires c κs = (
-  c.before.before.before.requires.floats.1,
-  (c.before.before.before.args.floats.now, c.before.before.before.requires.standing.0),
+  c.requires.0.1,
+  (c.args.floats.now, c.requires.1.0),
   root_in
-      c.before.before.before.args.s c.before.before.before.args.n c.before.before.before.args.floats.now
-      c.before.before.before.args.links.now c.before.before.before.requires.standing.0.framed,
+      c.args.s c.args.n c.args.floats.now
+      c.args.links.now c.requires.1.0.framed,
 )
 
 loop-holds : tie.Need-loop-left-init invariant-loop decreases-loop
@@ -72,82 +72,82 @@ loop-holds c =
     let count = count_nodes_lem s n fs ls in
     let rs = reverse (preorder t (length t.nodes) (t.root ∷ [])) in (
       rs,
-      subst (λ i. Backward t i rs) (ap (λ k. last_under t k n.root) count ∙ sym (c.last-i.ensures fs)) (walk_back s t start.requires.standing.0),
+      subst (λ i. Backward t i rs) (ap (λ k. last_under t k n.root) count ∙ sym (c.last-i.ensures fs)) (walk_back s t start.requires.1.0),
       subst (λ k. length rs ≤ k) count (order-few t (length t.nodes) (t.root ∷ [])),
       refl,
       refl,
-      back_all s t start.requires.standing.0 t refl,
+      back_all s t start.requires.1.0 t refl,
     )
 
 refold-node-requires : tie.Need-refold_node-requires invariant-loop decreases-loop
 refold-node-requires c κs =
     let start = c.before.before.before.before.before.before.before.before in
-    let l = c.before.before.before.loop-left in
+    let l = c.loop-left in
     let s = start.args.s in (
       (
-        rw l.invariant.3 start.requires.floats.0,
-        start.requires.floats.1,
-        (start.args.floats.now, start.requires.standing.0),
+        rw l.invariant.3 start.requires.0.0,
+        start.requires.0.1,
+        (start.args.floats.now, start.requires.1.0),
         here (c.before.before.before),
       ),
       (
-        list_filled s start.args.n start.args.links.now start.args.floats.now l.floats start.requires.standing.1 l.i
+        list_filled s start.args.n start.args.links.now start.args.floats.now l.floats start.requires.1.1 l.i
             (here (c.before.before.before)),
-        rw l.invariant.4 start.requires.floats.2,
+        rw l.invariant.4 start.requires.0.2,
       ),
     )
 
 parent-requires : tie.Need-parent-requires invariant-loop decreases-loop
 parent-requires c κs =
     let start = c.before.before.before.before.before.before.before.before.before.before.before.before.before in
-    (start.requires.floats.1, here (c.before.before.before.before.before.before.before.before))
+    (start.requires.0.1, here (c.before.before.before.before.before.before.before.before))
 
 same_length : tie.Need-shape_of-floats-in_default invariant-loop decreases-loop
 same_length c =
-    let loop = c.before.before.before.before.before.before.before.before.before.before.before.loop-left in
-    let refold-node = c.before.before.before.before.before.before.before.refold_node in
+    let loop = c.loop-left in
+    let refold-node = c.refold_node in
     refold-node.auto.1.1.0 ∙ loop.invariant.3
 
 same-length-2 : tie.Need-shape_of-scratch-in_default invariant-loop decreases-loop
 same-length-2 c =
-    let loop = c.before.before.before.before.before.before.before.before.before.before.before.loop-left in
-    let refold-node = c.before.before.before.before.before.before.before.refold_node in
+    let loop = c.loop-left in
+    let refold-node = c.refold_node in
     refold-node.auto.1.1.1.1.1.0 ∙ loop.invariant.4
 
 returns : tie.Need-returns-in_default invariant-loop decreases-loop
 returns c =
     let start = c.before.before.before.before.before.before.before.before.before.before.before.before.before.before.before.before in
-    let refold-node = c.before.before.before.before.before.before.before.refold_node in
-    let l = c.before.before.before.before.before.before.before.before.before.before.before.loop-left in
+    let refold-node = c.refold_node in
+    let l = c.loop-left in
     refold-node.ensures
-    ∙ back_top start.args.s (tree start) start.requires.standing.0 _ l.invariant.1
-    (sym (c.before.before.parent.ensures start.args.floats.now) ∙ no_parent_lem _ c.in_default.is)
+    ∙ back_top start.args.s (tree start) start.requires.1.0 _ l.invariant.1
+    (sym (c.parent.ensures start.args.floats.now) ∙ no_parent_lem _ c.in_default.is)
     ∙ l.invariant.5
 
 before-requires : tie.Need-before-i-requires invariant-loop decreases-loop
 before-requires c κs =
     let start = c.before.before.before.before.before.before.before.before.before.before.before.before.before.before.before.before.before in
-    let loop = c.before.before.before.before.before.before.before.before.before.before.before.before.loop-left in
+    let loop = c.loop-left in
     let s = start.args.s in
     let n = start.args.n in
     let fs = start.args.floats.now in
     let ls = start.args.links.now in
     let q = next c in
     let p_in = rw (count_nodes_lem s n fs ls) at q.parent_in in (
-      (start.requires.floats.1, (fs, start.requires.standing.0), p_in),
+      (start.requires.0.1, (fs, start.requires.1.0), p_in),
       λ gs. (
         same-leaf s n ls _ p_in gs fs ∙ q.inner,
         subst (λ l. 0 < occurs loop.i l) (same_list s n ls _ p_in fs gs)
-            (subst (λ j. 0 < occurs j (node_at (tree start) c.before.in-Node.p-1).list) q.here
-            (get_occurs (node_at (tree start) c.before.in-Node.p-1).list q.k 0 q.place)),
+            (subst (λ j. 0 < occurs j (node_at (tree start) c.in-Node.p-1).list) q.here
+            (get_occurs (node_at (tree start) c.in-Node.p-1).list q.k 0 q.place)),
       ),
     )
 
 loop-again : tie.Need-loop-left-preserved invariant-loop decreases-loop
 loop-again c =
     let start = c.before.before.before.before.before.before.before.before.before.before.before.before.before.before.before.before.before.before in
-    let refold-node = c.before.before.before.before.before.before.before.before.before.refold_node in
-    let l = c.before.before.before.before.before.before.before.before.before.before.before.before.before.loop-left in
+    let refold-node = c.refold_node in
+    let l = c.loop-left in
     let q = next (c.before) in (
       q.rest,
       subst (λ i. Backward (tree start) i q.rest) (sym (c.before-i.ensures start.args.floats.now q.k q.place q.here)) q.before,
@@ -158,20 +158,20 @@ loop-again c =
     )
 
 same-length-3 : tie.Need-shape_of-floats invariant-loop decreases-loop
-same-length-3 c = c.before.loop-left.invariant.3
+same-length-3 c = c.loop-left.invariant.3
 
 same-length-4 : tie.Need-shape_of-scratch invariant-loop decreases-loop
-same-length-4 c = c.before.loop-left.invariant.4
+same-length-4 c = c.loop-left.invariant.4
 
 returns-2 : tie.Need-returns invariant-loop decreases-loop
 returns-2 c =
     let start = c.before.before.before.before.before.before in
     absurd (omega (
       arith,
-      c.before.loop-left.invariant.2,
+      c.loop-left.invariant.2,
       c.loop-left-test.false,
-      back_some start.args.s (tree (start)) start.requires.standing.0
-          c.before.loop-left.invariant.1,
+      back_some start.args.s (tree (start)) start.requires.1.0
+          c.loop-left.invariant.1,
     ))
 
 pub refold_spec : {M : Type 1} → statement M

@@ -19,7 +19,7 @@ start c = c.before.before.before.before.before
 
 counts : (c : tie.After-with_root-m) → c.with_root-m.result ≡ cleared_counts (start c).args.n
 unfolding cleared_counts
-counts c = c.with_root-m.ensures ∙ ap (root_at 0) (c.before.with_entries.ensures ∙ ap (count_entries 0) c.before.before.with_nodes.ensures)
+counts c = c.with_root-m.ensures ∙ ap (root_at 0) (c.with_entries.ensures ∙ ap (count_entries 0) c.with_nodes.ensures)
 
 put-requires : tie.Need-put-requires
 put-requires c κs =
@@ -46,7 +46,7 @@ returns c =
     let t = tree_of a.s made.with_root-m.result a.floats.now a.links.now in (
       counts made,
       cleared-is a.s a.n _ (counts made) a.floats.now _ a.links.now _
-          (put.put.ensures a.links.now ∙ ap (λ z. on_node (summed (λ _. z)) 0 t) put.before.empty.ensures) c.before.before.link.ensures,
+          (put.put.ensures a.links.now ∙ ap (λ z. on_node (summed (λ _. z)) 0 t) put.empty.ensures) c.link.ensures,
     )
 
 pub clear_spec : {M : Type 1} → statement M

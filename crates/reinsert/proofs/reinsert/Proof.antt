@@ -20,7 +20,7 @@ tree c = tree_of c.args.s c.args.n c.args.floats.now c.args.links.now
 collect-requires : tie.Need-collect-count-requires
 collect-requires c κs =
     let start = c.before.before.before.before.before.before.before.before in
-    ((start.requires.floats.0, start.requires.floats.1, start.requires.reinsertable.standing), start.requires.s_in_bounds)
+    ((start.requires.0.0, start.requires.0.1, start.requires.1.1.standing), start.requires.1.0)
 
 replace-all-requires : tie.Need-replace_all-requires
 replace-all-requires c κs =
@@ -30,11 +30,11 @@ replace-all-requires c κs =
     let a = start.args in
     let counts = none.clear-m.ensures.value in (
       (
-        rw none.clear-m.auto.1.1.0 (floats-cleared a.s a.n _ counts start.requires.floats.0),
-        rw none.clear-m.auto.1.1.1.0 (links_cleared a.s a.n _ counts start.requires.floats.1),
-        rw all.collect-count.kept.1.1.1.1.0 start.requires.s_in_bounds.0,
+        rw none.clear-m.auto.floats (floats-cleared a.s a.n _ counts start.requires.0.0),
+        rw none.clear-m.auto.links (links_cleared a.s a.n _ counts start.requires.0.1),
+        rw all.collect-count.kept.1.1.1.1.0 start.requires.1.0.0,
       ),
-      all_replaceable a.s (tree start) start.requires.reinsertable all.collect-count.ensures none.clear-m.ensures.links_after start.requires.floats.0.sized,
+      all_replaceable a.s (tree start) start.requires.1.1 all.collect-count.ensures none.clear-m.ensures.links_after start.requires.0.0.sized,
     )
 
 returns : tie.Need-returns
@@ -42,9 +42,9 @@ returns c =
     let none = c.before.before.before.before.before.before.before.before.before.before.before.before in
     let all = taken none in
     let start = start all in
-    let new = c.before.before.before.before.replace_all in (
-      (rw none.clear-m.auto.1.1.0 at new.ensures.0.0, rw none.clear-m.auto.1.1.1.0 at new.ensures.0.1),
-      reinserted-is start.args.s (tree start) start.requires.reinsertable all.collect-count.ensures none.clear-m.ensures.links_after new.ensures.1,
+    let new = c.replace_all in (
+      (rw none.clear-m.auto.floats at new.ensures.0.0, rw none.clear-m.auto.links at new.ensures.0.1),
+      reinserted-is start.args.s (tree start) start.requires.1.1 all.collect-count.ensures none.clear-m.ensures.links_after new.ensures.1,
     )
 
 pub reinsert_spec : {M : Type 1} → statement M

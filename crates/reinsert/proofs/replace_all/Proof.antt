@@ -36,19 +36,19 @@ abbrev tree : tie.At-loop-left invariant-loop decreases-loop → Tree
 tree c = tree_of (start c).args.s c.loop-left.m c.loop-left.floats c.loop-left.links
 
 more : (c : tie.After-replace_slot-m invariant-loop decreases-loop) → 0 < (turn c).loop-left.left
-more c = c.before.before.before.loop-left-test.true
+more c = c.loop-left-test.true
 
 -- so many summaries have a slot each
 few : (c : tie.Start invariant-loop decreases-loop) → c.args.count ≤ entry_cap c.args.s
-few c = left-few c.args.s c.args.scratch.now c.args.count _ c.requires.replaceable
+few c = left-few c.args.s c.args.scratch.now c.args.count _ c.requires.1
 
 loop-holds : tie.Need-loop-left-init invariant-loop decreases-loop
 loop-holds c =
     let start = c.before.before.before in
-    (omega arith, refl, refl, start.requires.floats.0, start.requires.floats.1, start.requires.replaceable, refl)
+    (omega arith, refl, refl, start.requires.0.0, start.requires.0.1, start.requires.1, refl)
 
 sub-replace-slot : tie.Need-overflow_sub-left invariant-loop decreases-loop
-sub-replace-slot c = let loop = c.before.before.before.loop-left in omega (arith, c.before.before.loop-left-test.true, loop.invariant.0)
+sub-replace-slot c = let loop = c.loop-left in omega (arith, c.loop-left-test.true, loop.invariant.0)
 
 replace-slot-requires : tie.Need-replace_slot-m-requires invariant-loop decreases-loop
 replace-slot-requires c κs =
@@ -56,11 +56,11 @@ replace-slot-requires c κs =
     let start = start turn in
     let a = start.args in
     let loop = turn.loop-left in
-    let more = c.before.before.loop-left-test.true in (
+    let more = c.loop-left-test.true in (
       (
         loop.invariant.3,
         loop.invariant.4,
-        slot_there a.s _ _ start.requires.floats.0.sized start.requires.floats.2 (omega (arith, few start, loop.invariant.0, more)),
+        slot_there a.s _ _ start.requires.0.0.sized start.requires.0.2 (omega (arith, few start, loop.invariant.0, more)),
       ),
       last_placeable a.s a.scratch.now loop.left (tree turn) more loop.invariant.5,
     )
@@ -88,15 +88,15 @@ loop-again c =
       new.auto.1.1.1.0 ∙ loop.inv.2,
       rw (sym new.auto.1.1.0) at new.ensures.0.0,
       rw (sym new.auto.1.1.1.0) at new.ensures.0.1,
-      replace_on a.s a.scratch.now loop.left (tree turn) more loop.inv.5 new.ensures.1 (start turn).requires.floats.0.sized,
+      replace_on a.s a.scratch.now loop.left (tree turn) more loop.inv.5 new.ensures.1 (start turn).requires.0.0.sized,
       replace_turn a.s a.scratch.now loop.left (tree turn) more loop.inv.5 new.ensures.1 ∙ loop.inv.6,
     )
 
 same_length : tie.Need-shape_of-floats invariant-loop decreases-loop
-same_length c = c.before.loop-left.invariant.1
+same_length c = c.loop-left.invariant.1
 
 same-length-2 : tie.Need-shape_of-links invariant-loop decreases-loop
-same-length-2 c = c.before.loop-left.invariant.2
+same-length-2 c = c.loop-left.invariant.2
 
 returns : tie.Need-returns invariant-loop decreases-loop
 returns c =

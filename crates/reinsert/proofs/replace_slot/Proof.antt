@@ -21,14 +21,14 @@ fits : (c : tie.After-slot_width-w)
     → (start c).args.i * c.slot_width-w.result + c.slot_width-w.result ≤ length (start c).args.scratch.now
 fits c =
     let a = (start c).args in
-    slot_fits a.s a.scratch.now a.i c.slot_width-w.result (start c).requires.floats.2 c.slot_width-w.ensures
+    slot_fits a.s a.scratch.now a.i c.slot_width-w.result (start c).requires.0.2 c.slot_width-w.ensures
 
 summary : (c : tie.After-slot_width-w)
     → summary_in (start c).args.s (cut (start c).args.scratch.now (start c).args.i c.slot_width-w.result)
     ≡ summary_at (start c).args.s (start c).args.scratch.now (start c).args.i
 summary c =
     let a = (start c).args in
-    cut-summary a.s a.scratch.now a.i c.slot_width-w.result (start c).requires.floats.2 c.slot_width-w.ensures
+    cut-summary a.s a.scratch.now a.i c.slot_width-w.result (start c).requires.0.2 c.slot_width-w.ensures
 
 mul_at : tie.Need-overflow_mul-at
 mul_at c = omega (arith, fits c)
@@ -54,11 +54,11 @@ place-cf-requires c κs =
     let start = start width in
     let a = start.args in (
       (
-        start.requires.floats.0,
-        start.requires.floats.1,
-        slot_long a.s a.scratch.now a.i width.slot_width-w.result start.requires.floats.2 width.slot_width-w.ensures,
+        start.requires.0.0,
+        start.requires.0.1,
+        slot_long a.s a.scratch.now a.i width.slot_width-w.result start.requires.0.2 width.slot_width-w.ensures,
       ),
-      subst (Placeable a.s (tree_of a.s a.n a.floats.now a.links.now)) (sym (summary width)) start.requires.placeable,
+      subst (Placeable a.s (tree_of a.s a.n a.floats.now a.links.now)) (sym (summary width)) start.requires.1,
     )
 
 returns : tie.Need-returns

@@ -20,21 +20,21 @@ newline-requires : tie.Need-newline-requires
 newline-requires c κs =
     let start = c.before.before.before.before.before.before in
     let three = wrote_bad start.args.out.now (omega arith) in
-    let e = c.before.before.before.decimal-end.ensures in
+    let e = c.decimal-end.ensures in
     omega (arith, wrote_long three, wrote_long e, e.end, tabbed-decimal start.args.n)
 
 same_length : tie.Need-shape_of-out
 same_length c =
     let decimal = c.before.before.before.before.before.before in
     let start = decimal.before.before.before in
-    wrote_long c.before.before.newline.ensures ∙ wrote_long decimal.decimal-end.ensures ∙ wrote_long (wrote_bad start.args.out.now (omega arith))
+    wrote_long c.newline.ensures ∙ wrote_long decimal.decimal-end.ensures ∙ wrote_long (wrote_bad start.args.out.now (omega arith))
 
 returns : tie.Need-returns
 returns c =
     let decimal = c.before.before.before.before.before.before in
     let start = decimal.before.before.before in
     wrote_is (bad_is start.args.n) (wrote_both (wrote_both (wrote_bad start.args.out.now (omega arith)) decimal.decimal-end.ensures)
-    c.before.before.newline.ensures)
+    c.newline.ensures)
 
 pub write_bad_spec : {M : Type 1} → statement M
 write_bad_spec = tie.close (tie.spec (λ c. search rules) slice-write-out-2 slice-write-out-3 decimal-requires newline-requires same_length returns)

@@ -6,15 +6,15 @@ use Rattle.reports.proofs.write_counts.Statement.{statement}
 use Rattle.reports.proofs.write_counts.Tie as tie
 
 write-decimal-requires : tie.Need-write_decimal-a-requires
-write-decimal-requires c κs = omega (arith, decimal_short c.before.before.args.entries)
+write-decimal-requires c κs = omega (arith, decimal_short c.args.entries)
 
 hex-requires : tie.Need-hex-b-requires
 hex-requires c κs =
     let start = c.before.before.before.before.before.before in
     omega (
       arith,
-      c.before.before.before.write_decimal-a.ensures.1,
-      c.before.before.before.write_decimal-a.auto.1.0,
+      c.write_decimal-a.ensures.1,
+      c.write_decimal-a.auto.out,
       decimal_short start.args.entries,
     )
 
@@ -25,10 +25,10 @@ decimals-requires c κs =
     omega (
       arith,
       write-decimal.write_decimal-a.ensures.1,
-      write-decimal.write_decimal-a.auto.1.0,
+      write-decimal.write_decimal-a.auto.out,
       decimal_short start.args.entries,
-      c.before.before.before.hex-b.ensures.end,
-      wrote_long c.before.before.before.hex-b.ensures,
+      c.hex-b.ensures.end,
+      wrote_long c.hex-b.ensures,
       tabbed_hex start.args.threshold,
     )
 
@@ -40,13 +40,13 @@ newline-requires c κs =
     omega (
       arith,
       write-decimal.write_decimal-a.ensures.1,
-      write-decimal.write_decimal-a.auto.1.0,
+      write-decimal.write_decimal-a.auto.out,
       decimal_short start.args.entries,
       hex.hex-b.ensures.end,
       wrote_long hex.hex-b.ensures,
       tabbed_hex start.args.threshold,
-      c.before.before.before.decimals-c.ensures.end,
-      wrote_long c.before.before.before.decimals-c.ensures,
+      c.decimals-c.ensures.end,
+      wrote_long c.decimals-c.ensures,
       tabbed_decimals start.args.rebuilds start.args.total,
     )
 
@@ -59,7 +59,7 @@ returns c =
     let a = start.args in
     let first = wrote_decimal a.entries (omega arith) write-decimal.write_decimal-a.ensures in
     wrote_is (counts_are a.entries a.threshold a.rebuilds a.total)
-    (wrote_both (wrote_both (wrote_both first hex.hex-b.ensures) decimals.decimals-c.ensures) c.before.before.newline.ensures)
+    (wrote_both (wrote_both (wrote_both first hex.hex-b.ensures) decimals.decimals-c.ensures) c.newline.ensures)
 
 pub write_counts_spec : {M : Type 1} → statement M
 write_counts_spec = tie.close (tie.spec write-decimal-requires hex-requires decimals-requires newline-requires (λ c. search rules) returns)

@@ -18,7 +18,7 @@ write-entries-requires c κs =
     let a = start.args in
     let counts = write-counts.write_counts-at.ensures in
     let short = counts_short a.h.counters.entries a.h.counters.running.threshold a.h.counters.running.rebuilds a.total in
-    (rw c.before.settings.ensures start.requires.0.entries, omega (arith, counts.end, wrote_long counts, short))
+    (rw c.settings.ensures start.requires.0.entries, omega (arith, counts.end, wrote_long counts, short))
 
 returns : tie.Need-returns
 unfolding lent_tree
@@ -29,7 +29,7 @@ returns c =
     let a = start.args in
     let lines : Settings → _ = λ s. entry_lines s 0 (tree_of s a.h.counters a.floats.now a.links.now).entries in
     wrote_is (report-is start.requires.0) (wrote_both write-counts.write_counts-at.ensures (wrote_is (ap lines settings.settings.ensures)
-    c.before.before.write_entries.ensures))
+    c.write_entries.ensures))
 
 pub write_report_spec : {M : Type 1} → statement M
 write_report_spec = tie.close (tie.spec (λ c κs. search rules) (λ c κs. search rules) write-entries-requires (λ c. search rules) returns)

@@ -39,14 +39,14 @@ loop-holds c =
     )
 
 to-row-requires-2 : tie.Need-to_row-d-requires invariant-loop decreases-loop
-to-row-requires-2 c κs = let start = turn c in (start.requires.0, entry_listed _ _ start.requires.3 _ c.before.loop-k-test.true, start.requires.1)
+to-row-requires-2 c κs = let start = turn c in (start.requires.0, entry_listed _ _ start.requires.3 _ c.loop-k-test.true, start.requires.1)
 
 loop-again : tie.Need-loop-k-preserved invariant-loop decreases-loop
 loop-again c =
     let start = turn c.before.before in
-    let loop = c.before.before.before.before.loop-k in
-    let more = c.before.before.before.loop-k-test.true in
-    let far = c.before.to_row-d.ensures in
+    let loop = c.loop-k in
+    let more = c.loop-k-test.true in
+    let far = c.to_row-d.ensures in
     elim c.if-d-least.branch [
       | then-d-least w ↦ (
         rw w.1 (entry_listed _ _ start.requires.3 _ more),
@@ -60,11 +60,11 @@ loop-again c =
 
 returns : tie.Need-returns invariant-loop decreases-loop
 returns c =
-    let loop = c.before.loop-k in
+    let loop = c.loop-k in
     (λ ls. sym (nearest_end _ _ loop.k loop.best loop.least (omega arith)) ∙ loop.invariant.1 ls, loop.invariant.0)
 
 pub closest_entry_spec : {M : Type 1} → statement M
 closest_entry_spec =
     tie.close (tie.spec invariant-loop decreases-loop (λ c. search rules) (λ c. omega (arith, c.shared_slice_known-4-1.given 0)) to-row-requires loop-holds
-    (λ c. search rules) (λ c. search rules) (λ c. omega (arith, c.shared_slice_known-in-loop-k-1.given c.before.before.loop-k.k)) to-row-requires-2
+    (λ c. search rules) (λ c. search rules) (λ c. omega (arith, c.shared_slice_known-in-loop-k-1.given c.loop-k.k)) to-row-requires-2
     (λ c. search rules) (λ c. search rules) loop-again returns)

@@ -24,7 +24,7 @@ descend-requires : tie.Need-descend-leaf-requires
 descend-requires c κs =
     let start = c.before.before.before in
     let a = start.args in
-    ((start.requires.floats.0, start.requires.floats.1, fits_row a.s a.row.now start.requires.floats.2), routable_sure a.s (tree start) start.requires.routable)
+    ((start.requires.0.0, start.requires.0.1, fits_row a.s a.row.now start.requires.0.2), routable_sure a.s (tree start) start.requires.1)
 
 closest-entry-requires : tie.Need-closest_entry-requires
 closest-entry-requires c κs =
@@ -33,10 +33,10 @@ closest-entry-requires c κs =
     let a = start.args in
     let list = c.list.ensures a.floats.now in
     let here = down.descend-leaf.ensures.upper_bound in (
-      start.requires.floats.0,
-      start.requires.floats.2,
-      leaf-some a.s a.n a.floats.now a.links.now a.row.now start.requires.routable _ (leaf down) here list,
-      leaf_entries a.s a.n a.floats.now a.links.now a.row.now start.requires.routable _ (leaf down) here list,
+      start.requires.0.0,
+      start.requires.0.2,
+      leaf-some a.s a.n a.floats.now a.links.now a.row.now start.requires.1 _ (leaf down) here list,
+      leaf_entries a.s a.n a.floats.now a.links.now a.row.now start.requires.1 _ (leaf down) here list,
     )
 
 returns : tie.Need-returns
@@ -45,8 +45,8 @@ returns c =
     let start = start down in
     let a = start.args in
     let near = c.closest_entry.ensures in (
-      route_is a.s a.n a.floats.now a.links.now a.row.now start.requires.routable _ (leaf down) down.descend-leaf.ensures.upper_bound
-          (c.before.list.ensures a.floats.now) (near.0 a.links.now),
+      route_is a.s a.n a.floats.now a.links.now a.row.now start.requires.1 _ (leaf down) down.descend-leaf.ensures.upper_bound
+          (c.list.ensures a.floats.now) (near.0 a.links.now),
       near.1,
     )
 

@@ -7,7 +7,7 @@ use Rattle.rowlist.proofs.list.Tie as tie
 
 finish-requires : tie.Need-finish-end-requires
 finish-requires c κs =
-    let read = c.before.before.before.before.before.before.before.before.before.before.before.before.before.before.read-input in
+    let read = c.read-input in
     let kept = read.auto in
     let room : Room 200 5950 6175 425 75 = record {
       line_room = search rules;

@@ -58,9 +58,9 @@ loop-again c =
     let test = read.before.before in
     let more = test.loop-chunks-test.true in
     let kept = feed.feed-run.auto in
-    let inv = test.before.loop-chunks.invariant in (
+    let inv = test.loop-chunks.invariant in (
       omega arith,
-      read.read-got.auto.1.0 ∙ inv.1,
+      read.read-got.auto.buf ∙ inv.1,
       kept.1.1.0 ∙ inv.2,
       kept.1.1.1.0 ∙ inv.3,
       kept.1.1.1.1.0 ∙ inv.4,
@@ -72,14 +72,14 @@ loop-again c =
 pub read_spec : {M : Type 1} → statement M
 read_spec =
     tie.close (tie.spec invariant-loop decreases-loop (λ c κs. search rules) loop-holds (λ c κs. search rules) (λ c κs. search rules) (λ c. search rules)
-    (λ c. search rules) (λ c. search rules) feed-requires (λ c. search rules) add-chunks loop-less loop-again (λ c. c.before.loop-chunks.invariant.1)
-    (λ c. c.before.loop-chunks.invariant.2) (λ c. c.before.loop-chunks.invariant.3) (λ c. c.before.loop-chunks.invariant.4) (λ c. c.before.loop-chunks.invariant.5)
-    (λ c. c.before.loop-chunks.invariant.6) (λ c. c.before.loop-chunks.invariant.7)
-    (λ c. c.before.before.before.read-got.auto.1.0 ∙ c.before.before.before.before.before.before.loop-chunks.invariant.1)
-    (λ c. c.before.before.before.before.before.before.loop-chunks.invariant.2) (λ c. c.before.before.before.before.before.before.loop-chunks.invariant.3)
-    (λ c. c.before.before.before.before.before.before.loop-chunks.invariant.4) (λ c. c.before.before.before.before.before.before.loop-chunks.invariant.5)
-    (λ c. c.before.before.before.before.before.before.loop-chunks.invariant.6) (λ c. c.before.before.before.before.before.before.loop-chunks.invariant.7)
-    (λ c. (got c).read-got.auto.1.0 ∙ (turn c).loop-chunks.invariant.1) (λ c. (fed c).feed-run.auto.1.1.0 ∙ (turn c).loop-chunks.invariant.2)
-    (λ c. (fed c).feed-run.auto.1.1.1.0 ∙ (turn c).loop-chunks.invariant.3) (λ c. (fed c).feed-run.auto.1.1.1.1.0 ∙ (turn c).loop-chunks.invariant.4)
-    (λ c. (fed c).feed-run.auto.1.1.1.1.1.0 ∙ (turn c).loop-chunks.invariant.5) (λ c. (fed c).feed-run.auto.1.1.1.1.1.1.0 ∙ (turn c).loop-chunks.invariant.6)
+    (λ c. search rules) (λ c. search rules) feed-requires (λ c. search rules) add-chunks loop-less loop-again (λ c. c.loop-chunks.invariant.1)
+    (λ c. c.loop-chunks.invariant.2) (λ c. c.loop-chunks.invariant.3) (λ c. c.loop-chunks.invariant.4) (λ c. c.loop-chunks.invariant.5)
+    (λ c. c.loop-chunks.invariant.6) (λ c. c.loop-chunks.invariant.7)
+    (λ c. c.read-got.auto.buf ∙ c.loop-chunks.invariant.1)
+    (λ c. c.loop-chunks.invariant.2) (λ c. c.loop-chunks.invariant.3)
+    (λ c. c.loop-chunks.invariant.4) (λ c. c.loop-chunks.invariant.5)
+    (λ c. c.loop-chunks.invariant.6) (λ c. c.loop-chunks.invariant.7)
+    (λ c. (got c).read-got.auto.buf ∙ (turn c).loop-chunks.invariant.1) (λ c. (fed c).feed-run.auto.line ∙ (turn c).loop-chunks.invariant.2)
+    (λ c. (fed c).feed-run.auto.floats ∙ (turn c).loop-chunks.invariant.3) (λ c. (fed c).feed-run.auto.links ∙ (turn c).loop-chunks.invariant.4)
+    (λ c. (fed c).feed-run.auto.scratch ∙ (turn c).loop-chunks.invariant.5) (λ c. (fed c).feed-run.auto.numbers ∙ (turn c).loop-chunks.invariant.6)
     (λ c. (fed c).feed-run.ensures.reading_2))

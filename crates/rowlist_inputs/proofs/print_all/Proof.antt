@@ -25,12 +25,12 @@ add-from c =
 loop-less : tie.Need-loop-from-smaller invariant-loop decreases-loop
 loop-less c =
     let end_of_lem = c.before.before.before.before.before in
-    let more = end_of_lem.before.loop-from-test.true in omega (arith, end_of_lem.end_of_lem.ensures.0)
+    let more = end_of_lem.loop-from-test.true in omega (arith, end_of_lem.end_of_lem.ensures.0)
 
 loop-again : tie.Need-loop-from-preserved invariant-loop decreases-loop
-loop-again c = c.before.before.print_one.auto.1.0 ∙ c.before.before.before.before.before.before.before.loop-from.invariant
+loop-again c = c.print_one.auto.out ∙ c.loop-from.invariant
 
 pub print_all_spec : {M : Type 1} → statement M
 print_all_spec =
     tie.close (tie.spec invariant-loop decreases-loop (λ c. refl) end-of-requires (λ c. omega (arith, c.end_of_lem.ensures.0)) (λ c. omega (arith, c.end_of_lem.ensures.0))
-    (λ c. omega (arith, c.end_of_lem.ensures.1)) (λ c κs. search rules) add-from loop-less loop-again (λ c. c.before.loop-from.invariant) (λ c. search rules))
+    (λ c. omega (arith, c.end_of_lem.ensures.1)) (λ c κs. search rules) add-from loop-less loop-again (λ c. c.loop-from.invariant) (λ c. search rules))

@@ -7,8 +7,8 @@ use Rattle.rowlist_inputs.proofs.print_one.Tie as tie
 
 part-write-all-end : tie.Need-slice_bounds-write_all-end
 part-write-all-end c =
-    let list = c.before.before.before.list-listed in
-    let a = c.before.before.before.before.before.before.before.args in
+    let list = c.list-listed in
+    let a = c.args in
     let fits = list_fits_lem a.input.now a.out.now list.result _ list.ensures in
     omega arith
 

@@ -5,7 +5,7 @@ use Rattle.rows.proofs.row.Statement.{statement}
 use Rattle.rows.proofs.row.Tie as tie
 
 returns : tie.Need-returns
-returns c = row_cut c.before.args.s c.before.args.rows.now c.before.args.k
+returns c = row_cut c.args.s c.args.rows.now c.args.k
 
 pub row_spec : {M : Type 1} → statement M
 row_spec = tie.close (tie.spec (λ c. search rules) (λ c. search rules) (λ c. search rules) (λ c. search rules) (λ c. search rules) (λ c. search rules)

@@ -7,9 +7,9 @@ use Rattle.seen.proofs.add.Tie as tie
 returns : tie.Need-returns
 returns c =
     let start = c.before.before.before.before.before.before.before.before in
-    let bit = c.before.before.before.before.before.before.before.bit in
-    let bit2 = c.before.before.before.before.before.bit-2 in
-    with-is start.args.set start.args.e bit.ensures bit2.ensures c.before.before.before.bit-3.ensures c.before.bit-4.ensures
+    let bit = c.bit in
+    let bit2 = c.bit-2 in
+    with-is start.args.set start.args.e bit.ensures bit2.ensures c.bit-3.ensures c.bit-4.ensures
 
 pub add_spec : {M : Type 1} → statement M
 add_spec = tie.close (tie.spec (λ c κs. search rules) (λ c κs. search rules) (λ c κs. search rules) (λ c κs. search rules) returns)

@@ -5,7 +5,7 @@ use Rattle.seen.proofs.has.Statement.{statement}
 use Rattle.seen.proofs.has.Tie as tie
 
 returns : tie.Need-returns
-returns c = has_is c.before.args.set c.before.args.e c.word.ensures
+returns c = has_is c.args.set c.args.e c.word.ensures
 
 pub has_spec : {M : Type 1} → statement M
 has_spec = tie.close (tie.spec (λ c κs. search rules) (λ c. search rules) returns)

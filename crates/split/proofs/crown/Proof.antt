@@ -20,10 +20,10 @@ small : (c : tie.Start) → c.args.n.nodes < 65536
 small c = let k = caps_small c.args.s c.args.n _ c.requires.0 in omega (arith, c.requires.4)
 
 cast-t11 : tie.Need-overflow_cast-pair
-cast-t11 c = omega (arith, small c.before.before, c.before.before.requires.2)
+cast-t11 c = omega (arith, small c.before.before, c.requires.2)
 
 cast-t12 : tie.Need-overflow_cast-pair-2
-cast-t12 c = omega (arith, small c.before.before, c.before.before.requires.3)
+cast-t12 c = omega (arith, small c.before.before, c.requires.3)
 
 gather-requires : tie.Need-gather-c-requires
 gather-requires c κs =
@@ -37,7 +37,7 @@ set-parent-requires-2 : tie.Need-set_parent-requires-2
 set-parent-requires-2 c κs =
     let told = c.before.before.before in
     let s = start told.before.before in
-    (rw told.set_parent.auto.1.1.0 s.requires.1, s.requires.3, omega (arith, small s))
+    (rw told.set_parent.auto.links s.requires.1, s.requires.3, omega (arith, small s))
 
 append-requires : tie.Need-append-r-requires
 unfolding ParentFits
@@ -46,7 +46,7 @@ append-requires c κs =
     let first = second.before.before.before.before in
     let gather = first.before.before in
     let s = start gather in (
-      (s.requires.0, rw (second.set_parent-2.auto.1.1.0, first.set_parent.auto.1.1.0) s.requires.1, s.requires.4, gather.gather-c.ensures.shaped),
+      (s.requires.0, rw (second.set_parent-2.auto.links, first.set_parent.auto.links) s.requires.1, s.requires.4, gather.gather-c.ensures.shaped),
       (tt, pair_room s.args.s s.requires.0.sized, omega arith),
     )
 

@@ -7,15 +7,15 @@ use Rattle.split.proofs.fits.Tie as tie
 
 returns : tie.Need-returns-then-is_leaf
 returns c =
-    let a = c.before.before.before.before.before.args in
-    λ fs. fits_leaf a.s (tree_of a.s a.n fs a.links.now) a.i (c.before.before.before.list_len-len.ensures fs)
-    (c.before.before.is_leaf.ensures fs) c.before.if-is_leaf.true
+    let a = c.args in
+    λ fs. fits_leaf a.s (tree_of a.s a.n fs a.links.now) a.i (c.list_len-len.ensures fs)
+    (c.is_leaf.ensures fs) c.if-is_leaf.true
 
 returns-2 : tie.Need-returns-else-is_leaf
 returns-2 c =
-    let a = c.before.before.before.before.before.args in
-    λ fs. fits_inner a.s (tree_of a.s a.n fs a.links.now) a.i (c.before.before.before.list_len-len.ensures fs)
-    (c.before.before.is_leaf.ensures fs) c.before.if-is_leaf.false
+    let a = c.args in
+    λ fs. fits_inner a.s (tree_of a.s a.n fs a.links.now) a.i (c.list_len-len.ensures fs)
+    (c.is_leaf.ensures fs) c.if-is_leaf.false
 
 pub fits_spec : {M : Type 1} → statement M
 fits_spec = tie.close (tie.spec (λ c κs. search rules) (λ c κs. search rules) returns returns-2)

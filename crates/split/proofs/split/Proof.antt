@@ -27,7 +27,7 @@ halves : (c : tie.After-groups-h)
 halves c =
     let s = start (kind c) in
     let a = s.args in
-    halves_in a.s a.n (tree_of a.s a.n a.floats.now a.links.now) a.i s.requires.floats.0.sized s.requires.splits c.groups-h.ensures
+    halves_in a.s a.n (tree_of a.s a.n a.floats.now a.links.now) a.i s.requires.0.0.sized s.requires.1 c.groups-h.ensures
 
 part-requires : tie.Need-part-r-requires
 part-requires c κs =
@@ -58,11 +58,11 @@ adopt-requires c κs =
     let s = start (kind h) in
     let a = s.args in
     let two = halves h in
-    let small = caps_small a.s a.n _ s.requires.floats.0 in (
+    let small = caps_small a.s a.n _ s.requires.0.0 in (
       (
-        links_more a.s a.n part.part-r.result part.part-r.ensures.value part.part-r.auto.1.1.1.0 s.requires.floats.1 s.requires.floats.3,
+        links_more a.s a.n part.part-r.result part.part-r.ensures.value part.part-r.auto.links s.requires.0.1 s.requires.0.3,
         omega (arith, two.two_long, two.twos-few),
-        omega (arith, s.requires.floats.3),
+        omega (arith, s.requires.0.3),
       ),
       moved_in a.s a.n (tree_of a.s a.n a.floats.now a.links.now) a.i two
           (sym ((kind h).is_leaf-leaf.ensures a.floats.now) ∙ inner.if-leaf.false) part.part-r.ensures.value,

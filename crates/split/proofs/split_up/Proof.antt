@@ -38,10 +38,10 @@ abbrev read : tie.After-split-m invariant-loop decreases-loop → tie.After-pare
 read c = c.before.before.before
 
 more : (c : tie.After-parent-above invariant-loop decreases-loop) → 0 < (turn c).loop-left.left
-more c = c.before.before.before.before.before.loop-left-test.true
+more c = c.loop-left-test.true
 
 over : (c : tie.After-parent-above invariant-loop decreases-loop) → fitting (start (turn c)).args.s (tree (turn c)) (turn c).loop-left.at ≡ false
-over c = sym (c.before.before.before.fits2.ensures (turn c).loop-left.floats) ∙ c.before.before.if-fits.false
+over c = sym (c.fits2.ensures (turn c).loop-left.floats) ∙ c.if-fits.false
 
 steps : (c : tie.After-parent-above invariant-loop decreases-loop)
     → Step (start (turn c)).args.s (turn c).loop-left.left (turn c).loop-left.m (turn c).loop-left.at (tree (turn c))
@@ -64,21 +64,21 @@ loop-holds c =
     let start = c.before.before in
     let a = start.args in
     let t = tree_of a.s a.n a.floats.now a.links.now in
-    (refl, refl, start.requires.floats.0, start.requires.floats.1, start.requires.rising, up_start a.s a.n.nodes a.i t (count_nodes_lem a.s a.n _ _))
+    (refl, refl, start.requires.0.0, start.requires.0.1, start.requires.1, up_start a.s a.n.nodes a.i t (count_nodes_lem a.s a.n _ _))
 
 fits-requires : tie.Need-fits-requires invariant-loop decreases-loop
-fits-requires c κs = let loop = c.before.before.loop-left in (loop.invariant.3, loop.invariant.4.here)
+fits-requires c κs = let loop = c.loop-left in (loop.invariant.3, loop.invariant.4.here)
 
 returns : tie.Need-returns-then-fits invariant-loop decreases-loop
 returns c =
     let t = c.before.before.before.before in
     let loop = t.loop-left in (
       (rw loop.invariant.0 at loop.invariant.2, rw loop.invariant.1 at loop.invariant.3),
-      sym (up_fits (start t).args.s loop.left loop.at (tree t) (sym (c.before.fits2.ensures loop.floats) ∙ c.if-fits.true)) ∙ loop.invariant.5,
+      sym (up_fits (start t).args.s loop.left loop.at (tree t) (sym (c.fits2.ensures loop.floats) ∙ c.if-fits.true)) ∙ loop.invariant.5,
     )
 
 parent-requires : tie.Need-parent-above-requires invariant-loop decreases-loop
-parent-requires c κs = let loop = c.before.before.before.before.before.loop-left in (loop.invariant.3, loop.invariant.4.here)
+parent-requires c κs = let loop = c.loop-left in (loop.invariant.3, loop.invariant.4.here)
 
 split-requires : tie.Need-split-m-requires invariant-loop decreases-loop
 split-requires c κs =
@@ -96,8 +96,8 @@ crown-requires c κs =
     let r = split.split-m.result in
     let e = split.split-m.ensures.value in
     let here = loop.inv.4.here in (
-      more-floats split split.split-m.auto.1.1.0,
-      more-links split split.split-m.auto.1.1.1.0,
+      more-floats split split.split-m.auto.floats,
+      more-links split split.split-m.auto.links,
       below_more s loop.m r e (omega arith),
       below_more s loop.m r e (omega arith),
       room_more s loop.m r e ((steps p).top (parent_none p.parent-above.result (p.parent-above.ensures loop.floats) none.in_default.is)),
@@ -107,13 +107,13 @@ same-length-3 : tie.Need-shape_of-floats-in_default invariant-loop decreases-loo
 same-length-3 c =
     let crown = c.before.before.before.before in
     let split = crown.before.before.before.before.before.before.before.before.before in
-    crown.crown.auto.1.1.0 ∙ split.split-m.auto.1.1.0 ∙ (turn (read split)).loop-left.inv.0
+    crown.crown.auto.floats ∙ split.split-m.auto.floats ∙ (turn (read split)).loop-left.inv.0
 
 same-length-4 : tie.Need-shape_of-links-in_default invariant-loop decreases-loop
 same-length-4 c =
     let crown = c.before.before.before.before in
     let split = crown.before.before.before.before.before.before.before.before.before in
-    crown.crown.auto.1.1.1.0 ∙ split.split-m.auto.1.1.1.0 ∙ (turn (read split)).loop-left.inv.1
+    crown.crown.auto.links ∙ split.split-m.auto.links ∙ (turn (read split)).loop-left.inv.1
 
 returns-2 : tie.Need-returns-in_default invariant-loop decreases-loop
 returns-2 c =
@@ -151,7 +151,7 @@ append-requires c κs =
     let up = (steps p).up _ (parent_some p.parent-above.result (p.parent-above.ensures loop.floats) some.in-Node.is) in
     let small = caps_small s loop.m _ loop.inv.2 in
     let below = below_more s loop.m r e up.0 in (
-      (more-links split split.split-m.auto.1.1.1.0, below, omega (arith, (steps p).room)),
+      (more-links split split.split-m.auto.links, below, omega (arith, (steps p).room)),
       spare_any s r split.split-m.new.1.1.0 split.split-m.new.1.1.1.0 _ below split.split-m.ensures.links_after up.1,
     )
 
@@ -169,11 +169,11 @@ loop-again c =
     let above = parent_some p.parent-above.result (p.parent-above.ensures loop.floats) some.in-Node.is in
     let up = (steps p).up _ above in
     let listed = append.append.ensures split.split-m.new.1.1.0 in
-    let links_kept = append.append.auto.1.1.0 ∙ split.split-m.auto.1.1.1.0 in
+    let links_kept = append.append.auto.links ∙ split.split-m.auto.links in
     let count = count_nodes_lem s loop.m loop.floats loop.links in (
-      split.split-m.auto.1.1.0 ∙ loop.inv.0,
+      split.split-m.auto.floats ∙ loop.inv.0,
       links_kept ∙ loop.inv.1,
-      more-floats split split.split-m.auto.1.1.0,
+      more-floats split split.split-m.auto.floats,
       more-links split links_kept,
       rising_more s loop.m r e (next-is s loop.left loop.at (tree t) count (more p) (over p) split.split-m.ensures.links_after _ listed) up.2,
       next_up_lem s loop.left loop.at (tree t) count (more p) (over p) split.split-m.ensures.links_after _ above listed ∙ loop.inv.5,
@@ -189,7 +189,7 @@ returns-3 c =
 
 pub split_up_spec : {M : Type 1} → statement M
 split_up_spec =
-    tie.close (tie.spec invariant-loop decreases-loop loop-holds fits-requires (λ c. c.before.before.before.before.loop-left.invariant.0)
-    (λ c. c.before.before.before.before.loop-left.invariant.1) returns parent-requires split-requires (λ c. search rules) (λ c. search rules) crown-requires
-    same-length-3 same-length-4 returns-2 append-requires (λ c. omega arith) (λ c. omega arith) loop-again (λ c. c.before.loop-left.invariant.0)
-    (λ c. c.before.loop-left.invariant.1) returns-3)
+    tie.close (tie.spec invariant-loop decreases-loop loop-holds fits-requires (λ c. c.loop-left.invariant.0)
+    (λ c. c.loop-left.invariant.1) returns parent-requires split-requires (λ c. search rules) (λ c. search rules) crown-requires
+    same-length-3 same-length-4 returns-2 append-requires (λ c. omega arith) (λ c. omega arith) loop-again (λ c. c.loop-left.invariant.0)
+    (λ c. c.loop-left.invariant.1) returns-3)

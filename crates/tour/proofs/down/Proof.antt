@@ -9,26 +9,26 @@ use Rattle.tour.proofs.down.Statement.{statement}
 use Rattle.tour.proofs.down.Tie as tie
 
 parent-requires : tie.Need-parent-requires
-parent-requires c κs = c.before.requires
+parent-requires c κs = c.requires
 
 returns : tie.Need-returns-in_default
 unfolding parent_of down_of names
 returns c =
-    λ fs. rw (← c.before.before.parent.ensures fs, c.in_default.is)
+    λ fs. rw (← c.parent.ensures fs, c.in_default.is)
 
 returns-2 : tie.Need-returns-then-p-i
 unfolding parent_of down_of names
 returns-2 c =
     let start = c.before.before.before.before.before.before in
-    let p = c.before.before.p-1 in
-    λ fs. rw (← c.before.before.before.before.parent.ensures fs, p.given.1, eq-eqb start.args.i p.given.0.0 (sym c.if-p-i.true))
+    let p = c.p-1 in
+    λ fs. rw (← c.parent.ensures fs, p.given.1, eq-eqb start.args.i p.given.0.0 (sym c.if-p-i.true))
 
 returns-3 : tie.Need-returns-else-p-i
 unfolding parent_of down_of names
 returns-3 c =
     let start = c.before.before.before.before.before.before in
-    let p = c.before.before.p-1 in
-    λ fs. rw (← c.before.before.before.before.parent.ensures fs, p.given.1, ne_eqb start.args.i p.given.0.0 (λ w. c.if-p-i.false (sym w)))
+    let p = c.p-1 in
+    λ fs. rw (← c.parent.ensures fs, p.given.1, ne_eqb start.args.i p.given.0.0 (λ w. c.if-p-i.false (sym w)))
 
 pub down_spec : {M : Type 1} → statement M
 down_spec = tie.close (tie.spec parent-requires (λ c. search rules) (λ c. search rules) returns returns-2 returns-3)

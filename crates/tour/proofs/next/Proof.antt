@@ -8,7 +8,7 @@ use Rattle.tour.proofs.next.Statement.{statement}
 use Rattle.tour.proofs.next.Tie as tie
 
 is-leaf-requires : tie.Need-is_leaf-requires
-is-leaf-requires c κs = (c.before.requires.0, c.before.requires.2)
+is-leaf-requires c κs = (c.requires.0, c.requires.2)
 
 up-requires : tie.Need-up-requires
 up-requires c κs =
@@ -18,7 +18,7 @@ up-requires c κs =
 returns : tie.Need-returns-then-is_leaf
 returns c =
     let start = c.before.before.before.before in
-    λ fs. c.up.ensures fs ∙ next-leaf _ start.args.i start.args.k (sym (c.before.before.is_leaf.ensures fs) ∙ c.before.if-is_leaf.true)
+    λ fs. c.up.ensures fs ∙ next-leaf _ start.args.i start.args.k (sym (c.is_leaf.ensures fs) ∙ c.if-is_leaf.true)
 
 list-len-requires : tie.Need-list_len-requires
 list-len-requires c κs =
@@ -34,29 +34,29 @@ returns-2 : tie.Need-returns-then-k-list_len
 returns-2 c =
     let start = c.before.before.before.before.before.before in
     λ fs. c.up-then-k-list_len.ensures fs ∙ next-done _ start.args.i start.args.k
-    (sym (c.before.before.before.before.is_leaf.ensures fs) ∙ c.before.before.before.if-is_leaf.false)
-    (rw (← c.before.before.list_len.ensures fs) c.before.if-k-list_len.true)
+    (sym (c.is_leaf.ensures fs) ∙ c.if-is_leaf.false)
+    (rw (← c.list_len.ensures fs) c.if-k-list_len.true)
 
 list-at-requires : tie.Need-list_at-requires
 list-at-requires c κs =
     let start = c.before.before.before.before.before in
-    (start.requires.0, start.requires.2, λ fs. rw (← c.before.list_len.ensures fs) c.if-k-list_len.false)
+    (start.requires.0, start.requires.2, λ fs. rw (← c.list_len.ensures fs) c.if-k-list_len.false)
 
 down-requires : tie.Need-down-requires
 down-requires c κs =
     let start = c.before.before.before.before.before.before in (
       start.requires.0,
       inner_in start.args.s start.args.n [] start.args.links.now start.args.i start.args.k (start.requires.1 [])
-          (sym (c.before.before.before.before.is_leaf.ensures []) ∙ c.before.before.before.if-is_leaf.false) start.requires.2
-          (rw (← c.before.before.list_len.ensures []) c.before.if-k-list_len.false) (c.list_at.ensures.0 []),
+          (sym (c.is_leaf.ensures []) ∙ c.if-is_leaf.false) start.requires.2
+          (rw (← c.list_len.ensures []) c.if-k-list_len.false) (c.list_at.ensures.0 []),
     )
 
 returns-3 : tie.Need-returns
 returns-3 c =
     let start = c.before.before.before.before.before.before.before in
-    λ fs. c.down.ensures fs ∙ ap (down_of _ start.args.i) (c.before.list_at.ensures.0 fs) ∙ next_into _ start.args.i start.args.k
-    (sym (c.before.before.before.before.before.is_leaf.ensures fs) ∙ c.before.before.before.before.if-is_leaf.false)
-    (rw (← c.before.before.before.list_len.ensures fs) c.before.before.if-k-list_len.false)
+    λ fs. c.down.ensures fs ∙ ap (down_of _ start.args.i) (c.list_at.ensures.0 fs) ∙ next_into _ start.args.i start.args.k
+    (sym (c.is_leaf.ensures fs) ∙ c.if-is_leaf.false)
+    (rw (← c.list_len.ensures fs) c.if-k-list_len.false)
 
 pub next_spec : {M : Type 1} → statement M
 next_spec = tie.close (tie.spec is-leaf-requires up-requires returns list-len-requires up-requires-2 returns-2 list-at-requires down-requires returns-3)

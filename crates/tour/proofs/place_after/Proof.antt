@@ -17,24 +17,24 @@ loop-holds : tie.Need-loop-k-init invariant-loop decreases-loop
 loop-holds c = (omega arith, omega arith)
 
 cast-if1 : tie.Need-overflow_cast-list invariant-loop decreases-loop
-cast-if1 c = omega (arith, c.shared_slice_known-1.given c.before.before.loop-k.k)
+cast-if1 c = omega (arith, c.shared_slice_known-1.given c.loop-k.k)
 
 returns : tie.Need-returns-then-list-k invariant-loop decreases-loop
 returns c =
     let start = c.before.before.before.before in
-    let loop = c.before.before.before.loop-k in
-    place_found start.args.list.now start.args.c loop.k c.before.before.loop-k-test.true loop.invariant.1 c.if-list-k.true
+    let loop = c.loop-k in
+    place_found start.args.list.now start.args.c loop.k c.loop-k-test.true loop.invariant.1 c.if-list-k.true
 
 loop-again : tie.Need-loop-k-preserved invariant-loop decreases-loop
 loop-again c =
     let start = c.before.before.before.before in
-    let loop = c.before.before.before.loop-k in
-    (omega arith, place_turn start.args.list.now start.args.c loop.k c.before.before.loop-k-test.true loop.invariant.1 c.if-list-k.false)
+    let loop = c.loop-k in
+    (omega arith, place_turn start.args.list.now start.args.c loop.k c.loop-k-test.true loop.invariant.1 c.if-list-k.false)
 
 returns-2 : tie.Need-returns invariant-loop decreases-loop
 returns-2 c =
     let start = c.before.before in
-    place_end start.args.list.now start.args.c c.before.loop-k.k c.loop-k-test.false c.before.loop-k.invariant.1
+    place_end start.args.list.now start.args.c c.loop-k.k c.loop-k-test.false c.loop-k.invariant.1
 
 pub place_after_spec : {M : Type 1} → statement M
 place_after_spec = tie.close (tie.spec invariant-loop decreases-loop loop-holds (λ c. search rules) (λ c. search rules) cast-if1 (λ c. search rules) returns

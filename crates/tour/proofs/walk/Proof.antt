@@ -39,33 +39,33 @@ loop-holds c =
       omega arith,
       λ fs. (at_root start.args.s start.args.n fs start.args.links.now (start.requires.2 fs)).1,
       λ fs. go_start (tree_of start.args.s start.args.n fs start.args.links.now)
-          (rw (count_nodes_lem start.args.s start.args.n fs start.args.links.now)) (rw (← c.before.before.new.ensures) (c.before.meet-depths.ensures fs)),
+          (rw (count_nodes_lem start.args.s start.args.n fs start.args.links.now)) (rw (← c.new.ensures) (c.meet-depths.ensures fs)),
     )
 
 next-requires : tie.Need-next-requires invariant-loop decreases-loop
 next-requires c κs =
     let start = c.before.before.before.before.before.before in
-    let loop = c.before.loop-left in
+    let loop = c.loop-left in
     (start.requires.0, start.requires.1, loop.invariant.0, λ fs. above_in _ loop.at loop.d (loop.invariant.3 fs))
 
 add-d : tie.Need-overflow_add-d invariant-loop decreases-loop
 add-d c =
     let start = c.before.before.before.before.before.before.before.before.before.before in
     let a = nodes_small start.args.s start.requires.0.sized in
-    omega (arith, start.requires.0.nodes_in, a, c.before.before.before.before.before.loop-left.invariant.1)
+    omega (arith, start.requires.0.nodes_in, a, c.loop-left.invariant.1)
 
 add-met : tie.Need-overflow_add-met invariant-loop decreases-loop
 add-met c =
     let start = c.before.before.before.before.before.before.before.before.before.before in
     let a = nodes_small start.args.s start.requires.0.sized in
-    omega (arith, start.requires.0.nodes_in, a, c.before.before.before.before.before.loop-left.invariant.2)
+    omega (arith, start.requires.0.nodes_in, a, c.loop-left.invariant.2)
 
 meet-requires-2 : tie.Need-meet-depths-requires-in-Down invariant-loop decreases-loop
 meet-requires-2 c κs =
     let start = c.before.before.before.before.before.before.before.before.before.before in
-    let loop = c.before.before.before.before.before.loop-left in
-    let next = c.before.before.before.next in
-    let down = c.before.c-1 in (
+    let loop = c.loop-left in
+    let next = c.next in
+    let down = c.c-1 in (
       start.requires.0,
       (down_there start.args.s start.args.n [] start.args.links.now (start.requires.1 []) (start.requires.2 []) loop.at loop.k loop.d
           down.given.0.0 (sym (next.ensures []) ∙ down.given.1) loop.invariant.0 (loop.invariant.3 [])).0,
@@ -74,9 +74,9 @@ meet-requires-2 c κs =
 sub-d : tie.Need-overflow_sub-d invariant-loop decreases-loop
 sub-d c =
     let start = c.before.before.before.before.before.before.before.before.before.before in
-    let loop = c.before.before.before.before.before.loop-left in
-    let next = c.before.before.before.next in
-    let up = c.before.p-1 in
+    let loop = c.loop-left in
+    let next = c.next in
+    let up = c.p-1 in
     omega (
       arith,
       (up_there start.args.s start.args.n [] start.args.links.now loop.at loop.k loop.d up.given.0.0 _
@@ -85,22 +85,22 @@ sub-d c =
 
 returns : tie.Need-returns-in-End invariant-loop decreases-loop
 returns c =
-    let loop = c.before.before.before.before.before.loop-left in
-    λ fs. go_end _ loop.left loop.at loop.k loop.d loop.met loop.depths c.before.before.before.before.loop-left-test.true
-    (loop.invariant.4 fs) (c.before.before.before.next.ensures fs) c.before.in-End.is (c.back.ensures fs)
+    let loop = c.loop-left in
+    λ fs. go_end _ loop.left loop.at loop.k loop.d loop.met loop.depths c.loop-left-test.true
+    (loop.invariant.4 fs) (c.next.ensures fs) c.in-End.is (c.back.ensures fs)
 
 returns-2 : tie.Need-returns-in-Astray invariant-loop decreases-loop
 returns-2 c =
-    let loop = c.before.before.before.before.loop-left in
-    λ fs. go_astray _ loop.left loop.at loop.k loop.d loop.met loop.depths c.before.before.before.loop-left-test.true
-    (loop.invariant.4 fs) (c.before.before.next.ensures fs) c.in-Astray.is
+    let loop = c.loop-left in
+    λ fs. go_astray _ loop.left loop.at loop.k loop.d loop.met loop.depths c.loop-left-test.true
+    (loop.invariant.4 fs) (c.next.ensures fs) c.in-Astray.is
 
 loop-again : tie.Need-loop-left-preserved invariant-loop decreases-loop
 loop-again c =
     let start = c.before.before.before.before.before.before.before.before in
-    let loop = c.before.before.before.loop-left in
-    let next = c.before.next in
-    let some = c.before.before.loop-left-test.true in ⊎_elim
+    let loop = c.loop-left in
+    let next = c.next in
+    let some = c.loop-left-test.true in ⊎_elim
     (λ w. (
       rw w.4 (down_there start.args.s start.args.n [] start.args.links.now (start.requires.1 []) (start.requires.2 []) loop.at loop.k
           loop.d w.1.given.0.0 (sym (next.ensures []) ∙ w.1.given.1) loop.invariant.0 (loop.invariant.3 [])).0,
@@ -124,7 +124,7 @@ loop-again c =
 
 returns-3 : tie.Need-returns invariant-loop decreases-loop
 returns-3 c =
-    let loop = c.before.loop-left in
+    let loop = c.loop-left in
     λ fs. go_out _ loop.left loop.at loop.k loop.d loop.met loop.depths (omega (arith, c.loop-left-test.false)) (loop.invariant.4 fs)
 
 pub walk_spec : {M : Type 1} → statement M

@@ -52,26 +52,26 @@ start-7 c = start-6 c.before.before
 met-0 : (c : tie.After-shared_slice_known-2-1) → Met 0 c.before.before
 unfolding examined
 met-0 c =
-    checked-is c.before.before.args.s (lent c.before.before) c.before.before.requires.0.most-few
-    (lent_binary64 c.before.before.args.s c.before.before.args.n c.before.before.args.floats.now c.before.before.args.links.now _
-    c.before.shared_slice_known-1.given)
+    checked-is c.args.s (lent c.before.before) c.requires.0.most-few
+    (lent_binary64 c.args.s c.args.n c.args.floats.now c.args.links.now _
+    c.shared_slice_known-1.given)
 
 met-1 : (c : tie.Else-not-sized) → Met 1 (start-1 c)
 unfolding tested
-met-1 c = holds 1 _ _ (met-0 c.before.before) (sym (c.before.sized.ensures (start-1 c).args.floats.now (start-1 c).args.links.now) ∙ not-false
+met-1 c = holds 1 _ _ (met-0 c.before.before) (sym (c.sized.ensures (start-1 c).args.floats.now (start-1 c).args.links.now) ∙ not-false
     _ c.if-not-sized.false-raw)
 
 met-2 : (c : tie.Else-not-rooted) → Met 2 (start-2 c)
 unfolding tested
-met-2 c = holds 2 _ _ (met-1 c.before.before) (sym (c.before.rooted.ensures (start-2 c).args.floats.now) ∙ not-false _ c.if-not-rooted.false-raw)
+met-2 c = holds 2 _ _ (met-1 c.before.before) (sym (c.rooted.ensures (start-2 c).args.floats.now) ∙ not-false _ c.if-not-rooted.false-raw)
 
 met-3 : (c : tie.Else-not-lists_fit) → Met 3 (start-3 c)
 unfolding tested
-met-3 c = holds 3 _ _ (met-2 c.before.before) (sym (c.before.lists_fit.ensures (start-3 c).args.floats.now) ∙ not-false _ c.if-not-lists_fit.false-raw)
+met-3 c = holds 3 _ _ (met-2 c.before.before) (sym (c.lists_fit.ensures (start-3 c).args.floats.now) ∙ not-false _ c.if-not-lists_fit.false-raw)
 
 -- the walk that is whole
-walked : (c : tie.In-Whole) → walked_once (lent (start-4 c)) ≡ Whole c.before.in-Whole.depths-1
-walked c = sym (c.before.before.before.walk_once.ensures (start-4 c).args.floats.now) ∙ c.before.in-Whole.is
+walked : (c : tie.In-Whole) → walked_once (lent (start-4 c)) ≡ Whole c.in-Whole.depths-1
+walked c = sym (c.walk_once.ensures (start-4 c).args.floats.now) ∙ c.in-Whole.is
 
 met-4 : (c : tie.In-Whole) → Met 4 (start-4 c)
 unfolding tested whole
@@ -79,16 +79,16 @@ met-4 c = holds 4 _ _ (met-3 c.before.before.before.before) (ap whole (walked c)
 
 met-5 : (c : tie.Else-not-filled) → Met 5 (start-5 c)
 unfolding tested
-met-5 c = holds 5 _ _ (met-4 c.before.before) (sym (c.before.filled.ensures (start-5 c).args.floats.now) ∙ not-false _ c.if-not-filled.false-raw)
+met-5 c = holds 5 _ _ (met-4 c.before.before) (sym (c.filled.ensures (start-5 c).args.floats.now) ∙ not-false _ c.if-not-filled.false-raw)
 
 met-6 : (c : tie.Else-not-level) → Met 6 (start-6 c)
 unfolding tested even
-met-6 c = holds 6 _ _ (met-5 c.before.before) (ap even (walked c.before.before.before.before) ∙ sym c.before.level.ensures ∙ not-false _
+met-6 c = holds 6 _ _ (met-5 c.before.before) (ap even (walked c.before.before.before.before) ∙ sym c.level.ensures ∙ not-false _
     c.if-not-level.false-raw)
 
 met-7 : (c : tie.Else-not-summed) → Met 7 (start-7 c)
 unfolding tested
-met-7 c = holds 7 _ _ (met-6 c.before.before) (sym c.before.summed.ensures ∙ not-false _ c.if-not-summed.false-raw)
+met-7 c = holds 7 _ _ (met-6 c.before.before) (sym c.summed.ensures ∙ not-false _ c.if-not-summed.false-raw)
 
 -- ---- what they give to the code after them
 
@@ -96,43 +96,43 @@ links : (c : tie.Else-not-sized) → Links (start-1 c).args.s (start-1 c).args.n
 links c =
     let start = start-1 c in
     sized_links start.args.s start.args.n start.args.floats.now start.args.links.now start.requires.0 start.requires.2
-    (sym (c.before.sized.ensures start.args.floats.now start.args.links.now) ∙ not-false _ c.if-not-sized.false-raw)
+    (sym (c.sized.ensures start.args.floats.now start.args.links.now) ∙ not-false _ c.if-not-sized.false-raw)
 
 floats : (c : tie.Else-not-sized) → Floats (start-1 c).args.s (start-1 c).args.n (length (start-1 c).args.floats.now)
 floats c =
     let start = start-1 c in
     sized-floats start.args.s start.args.n start.args.floats.now start.args.links.now start.requires.0 start.requires.1
-    (sym (c.before.sized.ensures start.args.floats.now start.args.links.now) ∙ not-false _ c.if-not-sized.false-raw)
+    (sym (c.sized.ensures start.args.floats.now start.args.links.now) ∙ not-false _ c.if-not-sized.false-raw)
 
 few : (c : tie.Else-not-sized) → (start-1 c).args.n.entries ≤ 256
 few c =
     let start = start-1 c in
     sized-few start.args.s start.args.n start.args.floats.now start.args.links.now start.requires.0
-    (sym (c.before.sized.ensures start.args.floats.now start.args.links.now) ∙ not-false _ c.if-not-sized.false-raw)
+    (sym (c.sized.ensures start.args.floats.now start.args.links.now) ∙ not-false _ c.if-not-sized.false-raw)
 
 rooted-so : (c : tie.Else-not-rooted) → AnyFloats (start-2 c).args.s (start-2 c).args.n (start-2 c).args.links.now (λ t. rooted t ≡ true)
-rooted-so c = λ fs. sym (c.before.rooted.ensures fs) ∙ not-false _ c.if-not-rooted.false-raw
+rooted-so c = λ fs. sym (c.rooted.ensures fs) ∙ not-false _ c.if-not-rooted.false-raw
 
 root_in : (c : tie.Else-not-rooted) → (start-2 c).args.n.root < (start-2 c).args.n.nodes
 root_in c =
     let start = start-2 c in
     rooted_in start.args.s start.args.n start.args.floats.now start.args.links.now
-    (sym (c.before.rooted.ensures start.args.floats.now) ∙ not-false _ c.if-not-rooted.false-raw)
+    (sym (c.rooted.ensures start.args.floats.now) ∙ not-false _ c.if-not-rooted.false-raw)
 
 listed : (c : tie.Else-not-lists_fit) → ListsFit (start-3 c).args.s (start-3 c).args.n (start-3 c).args.links.now
-listed c = λ fs. sym (c.before.lists_fit.ensures fs) ∙ not-false _ c.if-not-lists_fit.false-raw
+listed c = λ fs. sym (c.lists_fit.ensures fs) ∙ not-false _ c.if-not-lists_fit.false-raw
 
 returns : tie.Need-returns-then-not-sized
 unfolding tested
-returns c = fails 1 _ _ (met-0 c.before.before) (sym (c.before.sized.ensures c.before.before.before.before.args.floats.now
-    c.before.before.before.before.args.links.now) ∙ not-true _ c.if-not-sized.true-raw)
+returns c = fails 1 _ _ (met-0 c.before.before) (sym (c.sized.ensures c.args.floats.now
+    c.args.links.now) ∙ not-true _ c.if-not-sized.true-raw)
 
 rooted-requires : tie.Need-rooted-requires
 rooted-requires c κs = links c
 
 returns-2 : tie.Need-returns-then-not-rooted
 unfolding tested
-returns-2 c = fails 2 _ _ (met-1 c.before.before) (sym (c.before.rooted.ensures (start-1 c.before.before).args.floats.now) ∙ not-true _
+returns-2 c = fails 2 _ _ (met-1 c.before.before) (sym (c.rooted.ensures (start-1 c.before.before).args.floats.now) ∙ not-true _
     c.if-not-rooted.true-raw)
 
 lists-fit-requires : tie.Need-lists_fit-requires
@@ -140,7 +140,7 @@ lists-fit-requires c κs = links c.before.before
 
 returns-3 : tie.Need-returns-then-not-lists_fit
 unfolding tested
-returns-3 c = fails 3 _ _ (met-2 c.before.before) (sym (c.before.lists_fit.ensures (start-2 c.before.before).args.floats.now) ∙ not-true _
+returns-3 c = fails 3 _ _ (met-2 c.before.before) (sym (c.lists_fit.ensures (start-2 c.before.before).args.floats.now) ∙ not-true _
     c.if-not-lists_fit.true-raw)
 
 walk-once-requires : tie.Need-walk_once-requires
@@ -148,7 +148,7 @@ walk-once-requires c κs = (links c.before.before.before.before, listed c, few c
 
 returns-4 : tie.Need-returns-in_default
 unfolding tested whole
-returns-4 c = fails 4 _ _ (met-3 c.before.before.before) (ap whole (sym (c.before.before.walk_once.ensures
+returns-4 c = fails 4 _ _ (met-3 c.before.before.before) (ap whole (sym (c.walk_once.ensures
     (start-3 c.before.before.before).args.floats.now) ∙ c.in_default.is))
 
 filled-requires : tie.Need-filled-requires
@@ -156,12 +156,12 @@ filled-requires c κs = links c.before.before.before.before.before.before.before
 
 returns-5 : tie.Need-returns-then-not-filled
 unfolding tested
-returns-5 c = fails 5 _ _ (met-4 c.before.before) (sym (c.before.filled.ensures (start-4 c.before.before).args.floats.now) ∙ not-true _
+returns-5 c = fails 5 _ _ (met-4 c.before.before) (sym (c.filled.ensures (start-4 c.before.before).args.floats.now) ∙ not-true _
     c.if-not-filled.true-raw)
 
 returns-6 : tie.Need-returns-then-not-level
 unfolding tested even
-returns-6 c = fails 6 _ _ (met-5 c.before.before) (ap even (walked c.before.before.before.before) ∙ sym c.before.level.ensures ∙ not-true _
+returns-6 c = fails 6 _ _ (met-5 c.before.before) (ap even (walked c.before.before.before.before) ∙ sym c.level.ensures ∙ not-true _
     c.if-not-level.true-raw)
 
 summed-requires : tie.Need-summed-requires
@@ -172,7 +172,7 @@ summed-requires c κs =
 
 returns-7 : tie.Need-returns-then-not-summed
 unfolding tested
-returns-7 c = fails 7 _ _ (met-6 c.before.before) (sym c.before.summed.ensures ∙ not-true _ c.if-not-summed.true-raw)
+returns-7 c = fails 7 _ _ (met-6 c.before.before) (sym c.summed.ensures ∙ not-true _ c.if-not-summed.true-raw)
 
 returns-8 : tie.Need-returns-then-n-s
 unfolding tested merged_below tree_of

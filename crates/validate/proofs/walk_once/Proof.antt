@@ -4,7 +4,7 @@ use Rattle.validate.proofs.walk_once.Statement.{statement}
 use Rattle.validate.proofs.walk_once.Tie as tie
 
 once-each-requires : tie.Need-once_each-requires
-once-each-requires c κs = (c.before.requires.0, c.before.requires.1, c.before.requires.2)
+once-each-requires c κs = (c.requires.0, c.requires.1, c.requires.2)
 
 walk-requires : tie.Need-walk-requires
 walk-requires c κs =
@@ -13,11 +13,11 @@ walk-requires c κs =
 
 returns : tie.Need-returns-then-once_each
 unfolding walked_once
-returns c = λ fs. rw (← c.before.before.once_each_lem.ensures fs, c.before.if-once_each.true) (c.walk.ensures fs)
+returns c = λ fs. rw (← c.once_each_lem.ensures fs, c.if-once_each.true) (c.walk.ensures fs)
 
 returns-2 : tie.Need-returns-else-once_each
 unfolding walked_once
-returns-2 c = λ fs. rw (← c.before.once_each_lem.ensures fs, c.if-once_each.false)
+returns-2 c = λ fs. rw (← c.once_each_lem.ensures fs, c.if-once_each.false)
 
 pub walk_once_spec : {M : Type 1} → statement M
 walk_once_spec = tie.close (tie.spec once-each-requires walk-requires returns returns-2)

@@ -13,7 +13,7 @@ returns : tie.Need-returns
 unfolding adds_up
 returns c =
     let start = c.before.before.before.before in
-    rw (← c.before.weight_listed.ensures, ← c.weight.ensures start.args.links.now)
+    rw (← c.weight_listed.ensures, ← c.weight.ensures start.args.links.now)
 
 pub adds_up_spec : {M : Type 1} → statement M
 adds_up_spec = tie.close (tie.spec (λ c κs. search rules) weight-requires returns)

@@ -26,22 +26,22 @@ weight-requires c κs =
 returns : tie.Need-returns-then-not-is_count invariant-loop decreases-loop
 returns c =
     let start = c.before.before.before.before.before.before.before in
-    let loop = c.before.before.before.before.before.loop-e in
-    let if1 = c.before.before.before.loop-e-test in
-    let weight = c.before.before.weight in
-    λ ls. fails_at _ _ loop.e if1.true (c.before.is_count.ensures ∙ ap is_count (weight.ensures ls)) (not-true _ c.if-not-is_count.true-raw)
+    let loop = c.loop-e in
+    let if1 = c.loop-e-test in
+    let weight = c.weight in
+    λ ls. fails_at _ _ loop.e if1.true (c.is_count.ensures ∙ ap is_count (weight.ensures ls)) (not-true _ c.if-not-is_count.true-raw)
     ∙ entries_placed start.args.s start.args.n start.args.floats.now ls _
 
 loop-again : tie.Need-loop-e-preserved invariant-loop decreases-loop
 loop-again c =
-    let loop = c.before.before.before.before.before.loop-e in
-    let weight = c.before.before.weight in
-    (omega arith, λ ls. passed_more _ loop.e (loop.invariant.1 ls) (c.before.is_count.ensures ∙ ap is_count (weight.ensures ls)) (not-false _ c.if-not-is_count.false-raw))
+    let loop = c.loop-e in
+    let weight = c.weight in
+    (omega arith, λ ls. passed_more _ loop.e (loop.invariant.1 ls) (c.is_count.ensures ∙ ap is_count (weight.ensures ls)) (not-false _ c.if-not-is_count.false-raw))
 
 returns-2 : tie.Need-returns invariant-loop decreases-loop
 returns-2 c =
     let start = c.before.before.before.before in
-    let loop = c.before.before.loop-e in
+    let loop = c.loop-e in
     λ ls. passed_all _ _ loop.e (loop.invariant.1 ls) c.loop-e-test.false
     ∙ entries_placed start.args.s start.args.n start.args.floats.now ls _
 

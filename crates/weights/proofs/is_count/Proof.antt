@@ -8,13 +8,13 @@ use Rattle.weights.proofs.is_count.Tie as tie
 returns : tie.Need-returns-in-Rows
 unfolding count_of
 returns c =
-    let count_of = c.before.before.count_of in
+    let count_of = c.count_of in
     sym (told_rows _ _ (sym count_of.ensures ∙ c.in-Rows.is))
 
 returns-2 : tie.Need-returns-in-NotWhole
 unfolding count_of
 returns-2 c =
-    let count_of = c.before.before.count_of in
+    let count_of = c.count_of in
     sym (told_none _ _ (sym count_of.ensures ∙ c.in-NotWhole.is))
 
 pub is_count_spec : {M : Type 1} → statement M

@@ -26,21 +26,21 @@ returns : tie.Need-returns-then-not-adds_up invariant-loop decreases-loop
 unfolding nodes_add_up
 returns c =
     let start = c.before.before.before.before.before.before.before in
-    let loop = c.before.before.before.before.loop-i in
-    let if1 = c.before.before.loop-i-test in
+    let loop = c.loop-i in
+    let if1 = c.loop-i-test in
     rw (count_nodes_lem start.args.s start.args.n start.args.floats.now start.args.links.now)
-    (fails_at _ _ loop.i if1.true c.before.adds_up.ensures (not-true _ c.if-not-adds_up.true-raw))
+    (fails_at _ _ loop.i if1.true c.adds_up.ensures (not-true _ c.if-not-adds_up.true-raw))
 
 loop-again : tie.Need-loop-i-preserved invariant-loop decreases-loop
 loop-again c =
-    let loop = c.before.before.before.before.loop-i in
-    (omega arith, passed_more _ loop.i loop.invariant.1 c.before.adds_up.ensures (not-false _ c.if-not-adds_up.false-raw))
+    let loop = c.loop-i in
+    (omega arith, passed_more _ loop.i loop.invariant.1 c.adds_up.ensures (not-false _ c.if-not-adds_up.false-raw))
 
 returns-2 : tie.Need-returns invariant-loop decreases-loop
 unfolding nodes_add_up
 returns-2 c =
     let start = c.before.before.before.before.before in
-    let loop = c.before.before.loop-i in
+    let loop = c.loop-i in
     rw (count_nodes_lem start.args.s start.args.n start.args.floats.now start.args.links.now) (passed_all _ _ loop.i loop.invariant.1 c.loop-i-test.false)
 
 pub nodes_add_up_spec : {M : Type 1} → statement M

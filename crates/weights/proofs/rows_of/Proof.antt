@@ -7,7 +7,7 @@ truncating-f64-to-u64-requires : tie.Need-truncating_f64_to_u64-requires
 truncating-f64-to-u64-requires c κs = let r = count_ranged c.args.w c.requires in (r.above, r.below)
 
 returns : tie.Need-returns
-returns c = let r = count_ranged c.before.args.w c.before.requires in (c.truncating_f64_to_u64.ensures, rw c.truncating_f64_to_u64.ensures r.few)
+returns c = let r = count_ranged c.args.w c.requires in (c.truncating_f64_to_u64.ensures, rw c.truncating_f64_to_u64.ensures r.few)
 
 pub rows_of_spec : {M : Type 1} → statement M
 rows_of_spec = tie.close (tie.spec truncating-f64-to-u64-requires returns)

@@ -16,24 +16,24 @@ returns : tie.Need-returns-then-not-entries_count
 unfolding summed
 returns c =
     let start = c.before.before.before.before in
-    rw (← c.before.entries_count.ensures start.args.links.now, not-true c.before.entries_count.result c.if-not-entries_count.true-raw)
+    rw (← c.entries_count.ensures start.args.links.now, not-true c.entries_count.result c.if-not-entries_count.true-raw)
 
 total-requires : tie.Need-total-requires
 total-requires c κs =
     let start = c.before.before.before.before in
-    (start.requires.0, λ ls. sym (c.before.entries_count.ensures ls) ∙ not-false _ c.if-not-entries_count.false-raw)
+    (start.requires.0, λ ls. sym (c.entries_count.ensures ls) ∙ not-false _ c.if-not-entries_count.false-raw)
 
 returns-2 : tie.Need-returns-then-total-gt-MOST_ROWS
 unfolding summed
 returns-2 c =
     let start = c.before.before.before.before.before.before in
-    let entries-count = c.before.before.before.entries_count in
-    let if1 = c.before.before.if-not-entries_count in
+    let entries-count = c.entries_count in
+    let if1 = c.if-not-entries_count in
     rw (
       ← entries-count.ensures start.args.links.now,
       not-false entries-count.result if1.false,
-      ← c.before.total.ensures start.args.links.now,
-      lt-leb c.before.total.result most c.if-total-gt-MOST_ROWS.true,
+      ← c.total.ensures start.args.links.now,
+      lt-leb c.total.result most c.if-total-gt-MOST_ROWS.true,
     )
 
 weighs-nothing-requires : tie.Need-weighs_nothing-requires
@@ -45,17 +45,17 @@ returns-3 : tie.Need-returns-then-n-eq0
 unfolding summed
 returns-3 c =
     let start = c.before.before.before.before.before.before.before.before.before in
-    let entries-count = c.before.before.before.before.before.before.entries_count in
-    let if1 = c.before.before.before.before.before.if-not-entries_count in
-    let total = c.before.before.before.before.total in
-    let if2 = c.before.before.before.if-total-gt-MOST_ROWS in
+    let entries-count = c.entries_count in
+    let if1 = c.if-not-entries_count in
+    let total = c.total in
+    let if2 = c.if-total-gt-MOST_ROWS in
     rw (
       ← entries-count.ensures start.args.links.now,
       not-false entries-count.result if1.false,
       ← total.ensures start.args.links.now,
       le-leb total.result most if2.false,
       count_entries_lem start.args.s start.args.n start.args.floats.now start.args.links.now,
-      eq-eqb start.args.n.entries 0 c.before.if-n-eq0.true,
+      eq-eqb start.args.n.entries 0 c.if-n-eq0.true,
     )
     (c.weighs_nothing.ensures start.args.links.now)
 
@@ -68,17 +68,17 @@ returns-4 : tie.Need-returns
 unfolding summed
 returns-4 c =
     let start = c.before.before.before.before.before.before.before.before.before in
-    let entries-count = c.before.before.before.before.before.before.entries_count in
-    let if1 = c.before.before.before.before.before.if-not-entries_count in
-    let total = c.before.before.before.before.total in
-    let if2 = c.before.before.before.if-total-gt-MOST_ROWS in
+    let entries-count = c.entries_count in
+    let if1 = c.if-not-entries_count in
+    let total = c.total in
+    let if2 = c.if-total-gt-MOST_ROWS in
     rw (
       ← entries-count.ensures start.args.links.now,
       not-false entries-count.result if1.false,
       ← total.ensures start.args.links.now,
       le-leb total.result most if2.false,
       count_entries_lem start.args.s start.args.n start.args.floats.now start.args.links.now,
-      ne_eqb start.args.n.entries 0 c.before.if-n-eq0.false,
+      ne_eqb start.args.n.entries 0 c.if-n-eq0.false,
     )
     c.nodes_add_up.ensures
 

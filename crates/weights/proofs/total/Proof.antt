@@ -28,9 +28,9 @@ weight-requires c κs =
 rows-of-requires : tie.Need-rows_of-rows-requires invariant-loop decreases-loop
 rows-of-requires c κs =
     let start = c.before.before.before.before.before in
-    let loop = c.before.before.before.loop-e in
+    let loop = c.loop-e in
     ap is_count (c.weight.ensures []) ∙ entry_counts start.args.s start.args.n start.args.floats.now [] start.requires.1 loop.e
-    c.before.loop-e-test.true
+    c.loop-e-test.true
 
 add-rows : tie.Need-overflow_add-rows invariant-loop decreases-loop
 add-rows c =
@@ -40,17 +40,17 @@ add-rows c =
 loop-again : tie.Need-loop-e-preserved invariant-loop decreases-loop
 unfolding row_count
 loop-again c =
-    let loop = c.before.before.before.before.loop-e in
+    let loop = c.loop-e in
     let q = c.rows_of_lem.ensures.1 in (
       omega arith,
       omega arith,
-      λ ls. sum_more _ loop.e (loop.invariant.2 ls) (c.rows_of_lem.ensures.0 ∙ ap (to_unsigned 64) (c.before.weight.ensures ls)),
+      λ ls. sum_more _ loop.e (loop.invariant.2 ls) (c.rows_of_lem.ensures.0 ∙ ap (to_unsigned 64) (c.weight.ensures ls)),
     )
 
 returns : tie.Need-returns invariant-loop decreases-loop
 returns c =
     let start = c.before.before.before.before in
-    let loop = c.before.before.loop-e in
+    let loop = c.loop-e in
     λ ls. sum_end _ _ loop.e (loop.invariant.2 ls) loop.invariant.0 c.loop-e-test.false
     ∙ sym (total-placed start.args.s start.args.n start.args.floats.now ls)
 

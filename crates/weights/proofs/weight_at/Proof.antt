@@ -21,7 +21,7 @@ weight-requires c κs =
     let start = c.before.before.before.before in
     let at = start.args.floats.now in (
       start.requires.0.floats,
-      rw (c.before.is_leaf-leaf.ensures at, c.list_at-c.ensures.0 at)
+      rw (c.is_leaf-leaf.ensures at, c.list_at-c.ensures.0 at)
           (child_in start.args.s start.args.n at start.args.links.now start.requires.0 start.args.i start.args.k start.requires.1 (start.requires.2 at)),
     )
 
@@ -31,8 +31,8 @@ returns c =
     let start = c.before.before.before.before.before in
     let at = start.args.floats.now in
     c.weight.ensures start.args.links.now
-    ∙ ap₂ (λ b x. (child (tree_of start.args.s start.args.n at start.args.links.now) b x).weight) (c.before.before.is_leaf-leaf.ensures at)
-    (c.before.list_at-c.ensures.0 at)
+    ∙ ap₂ (λ b x. (child (tree_of start.args.s start.args.n at start.args.links.now) b x).weight) (c.is_leaf-leaf.ensures at)
+    (c.list_at-c.ensures.0 at)
 
 pub weight_at_spec : {M : Type 1} → statement M
 weight_at_spec = tie.close (tie.spec is-leaf-requires list-at-requires weight-requires returns)

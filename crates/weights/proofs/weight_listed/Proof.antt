@@ -25,17 +25,17 @@ loop-holds c = (omega arith, refl)
 weight-at-requires : tie.Need-weight_at-sum-requires invariant-loop decreases-loop
 weight-at-requires c κs =
     let start = c.before.before.before.before.before in
-    let list-len = c.before.before.list_len-len in
+    let list-len = c.list_len-len in
     (start.requires.0, start.requires.1, λ fs. rw (sym (list-len.ensures fs)) c.loop-k-test.true)
 
 loop-again : tie.Need-loop-k-preserved invariant-loop decreases-loop
 unfolding weight_at
 loop-again c =
     let start = c.before.before.before.before.before.before in
-    let loop = c.before.before.loop-k in
-    let list-len = c.before.before.before.list_len-len in (
+    let loop = c.loop-k in
+    let list-len = c.list_len-len in (
       omega arith,
-      sum-on _ _ loop.sum loop.k (rw (sym (list-len.ensures start.args.floats.now)) c.before.loop-k-test.true) loop.invariant.1
+      sum-on _ _ loop.sum loop.k (rw (sym (list-len.ensures start.args.floats.now)) c.loop-k-test.true) loop.invariant.1
           c.weight_at_lem.ensures,
     )
 
@@ -43,8 +43,8 @@ returns : tie.Need-returns invariant-loop decreases-loop
 unfolding weight_listed
 returns c =
     let start = c.before.before.before.before.before in
-    let list-len = c.before.before.list_len-len in
-    sum_done _ _ c.before.loop-k.sum c.before.loop-k.k (rw (sym (list-len.ensures start.args.floats.now)) c.loop-k-test.false) c.before.loop-k.invariant.1
+    let list-len = c.list_len-len in
+    sum_done _ _ c.loop-k.sum c.loop-k.k (rw (sym (list-len.ensures start.args.floats.now)) c.loop-k-test.false) c.loop-k.invariant.1
 
 pub weight_listed_spec : {M : Type 1} → statement M
 weight_listed_spec = tie.close (tie.spec invariant-loop decreases-loop list-len-requires loop-holds weight-at-requires (λ c. search rules) (λ c. search rules)

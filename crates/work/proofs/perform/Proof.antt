@@ -8,18 +8,18 @@ use Rattle.work.proofs.perform.Tie as tie
 insert-all-requires : tie.Need-insert_all-requires
 insert-all-requires c κs =
     let start = c.before.before.before.before.before.before.before.before.before.before.before in
-    (start.requires.floats, (start.requires.dim_in_bounds.0, insert_asks _ _ c.before.before.before.before.in-Insert.is start.requires.dim_in_bounds.1))
+    (start.requires.0, (start.requires.1.0, insert_asks _ _ c.in-Insert.is start.requires.1.1))
 
 refit-requires : tie.Need-refit-requires
 refit-requires c κs =
     let start = c.before.before.before.before.before.before.before.before.before.before.before in
-    (start.requires.floats, (start.requires.dim_in_bounds.0, refit_asks _ _ c.before.before.before.before.in-Refit.is start.requires.dim_in_bounds.1))
+    (start.requires.0, (start.requires.1.0, refit_asks _ _ c.in-Refit.is start.requires.1.1))
 
 returns : tie.Need-returns-in-Insert
-returns c = (c.before.before.before.before.before.before.before.before.insert_all.ensures.floats_2, c.before.before.before.before.before.before.before.before.insert_all.ensures.links_after ∙ insert_does _ _ c.before.before.before.before.before.before.before.before.before.before.before.before.before.in-Insert.is _)
+returns c = (c.insert_all.ensures.floats_2, c.insert_all.ensures.links_after ∙ insert_does _ _ c.in-Insert.is _)
 
 returns-2 : tie.Need-returns-in-Refit
-returns-2 c = (c.before.before.before.before.before.before.before.before.refit.ensures.floats_2, c.before.before.before.before.before.before.before.before.refit.ensures.links_after ∙ refit_does _ _ c.before.before.before.before.before.before.before.before.before.before.before.before.before.in-Refit.is _)
+returns-2 c = (c.refit.ensures.floats_2, c.refit.ensures.links_after ∙ refit_does _ _ c.in-Refit.is _)
 
 pub perform_spec : {M : Type 1} → statement M
 perform_spec = tie.close (tie.spec (λ c. search rules) insert-all-requires (λ c. search rules) refit-requires (λ c. search rules) (λ c. search rules) (λ c. search rules) (λ c. search rules) returns (λ c. search rules) (λ c. search rules) (λ c. search rules) (λ c. search rules) returns-2)

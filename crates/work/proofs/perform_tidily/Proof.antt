@@ -8,20 +8,20 @@ use Rattle.work.proofs.perform_tidily.Tie as tie
 perform-requires : tie.Need-perform-m-requires
 perform-requires c κs =
     let start = c.before.before.before.before.before.before.before.before.before in
-    ((start.requires.fronts.tree.floats_in_lem, start.requires.fronts.tree.links_in, scratch_in start.requires.fronts), start.requires.dim_in_bounds)
+    ((start.requires.0.tree.floats_in_lem, start.requires.0.tree.links_in, scratch_in start.requires.0), start.requires.1)
 
 tidy-all-requires : tie.Need-tidy_all-requires
 tidy-all-requires c κs =
     let start = c.before.before.before.before.before.before.before.before.before.before.before.before.before.before.before.before.before.before.before.before.before.before in
-    let new = c.before.before.before.before.before.before.before.before.before.before.before.before.perform-m in
-    all_fronts start.requires.fronts new.auto.1.1.0 new.auto.1.1.1.0 new.auto.1.1.1.1.0 new.auto.1.1.1.1.1.0 new.ensures.0.0
+    let new = c.perform-m in
+    all_fronts start.requires.0 new.auto.1.1.0 new.auto.1.1.1.0 new.auto.1.1.1.1.0 new.auto.1.1.1.1.1.0 new.ensures.0.0
     new.ensures.0.1
 
 returns : tie.Need-returns
 returns c =
-    let tidy = c.before.before.before.before.before.before.before.before.tidy_all in
-    let new = c.before.before.before.before.before.before.before.before.before.before.before.before.before.before.before.before.before.before.before.before.before.perform-m in
-    subst (λ t. AllLeft c.before.before.before.before.before.before.before.before.before.before.before.before.before.before.before.before.before.before.before.before.before.before.before.before.before.before.before.before.before.before.before.args.s t new.result tidy.new.1.1.0 tidy.new.1.1.1.0 tidy.new.1.1.1.1.0 tidy.new.1.1.1.1.1.0)
+    let tidy = c.tidy_all in
+    let new = c.perform-m in
+    subst (λ t. AllLeft c.args.s t new.result tidy.new.1.1.0 tidy.new.1.1.1.0 tidy.new.1.1.1.1.0 tidy.new.1.1.1.1.1.0)
     new.ensures.1 tidy.ensures
 
 pub perform_tidily_spec : {M : Type 1} → statement M

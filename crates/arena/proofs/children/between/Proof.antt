@@ -20,7 +20,7 @@ between-requires : tie.Need-between-requires
 between-requires c κs =
     let start = c.before.before.before in
     let slot = child_slot_lem start.args.s start.args.n _ start.args.leaf in (
-      rw c.before.place-a.ensures (slot start.args.i start.requires.0 start.requires.1),
+      rw c.place-a.ensures (slot start.args.i start.requires.0 start.requires.1),
       rw c.place-b.ensures
           (slot start.args.j start.requires.0 start.requires.2),
     )
@@ -32,8 +32,8 @@ returns c =
     let fs = start.args.floats.now in
     let leaf = start.args.leaf in
     λ ls. c.between.ensures ∙ ap₂ (λ x y. between_of start.args.k s.feature s.dim x y)
-    (ap (summary_at s fs) c.before.before.place-a.ensures ∙ sym (child-at s start.args.n fs ls leaf start.args.i start.requires.1))
-    (ap (summary_at s fs) c.before.place-b.ensures ∙ sym (child-at s start.args.n fs ls leaf start.args.j start.requires.2))
+    (ap (summary_at s fs) c.place-a.ensures ∙ sym (child-at s start.args.n fs ls leaf start.args.i start.requires.1))
+    (ap (summary_at s fs) c.place-b.ensures ∙ sym (child-at s start.args.n fs ls leaf start.args.j start.requires.2))
 
 pub between_spec : {M : Type 1} → statement M
 between_spec = tie.close (tie.spec place-requires place-requires-2 between-requires returns)

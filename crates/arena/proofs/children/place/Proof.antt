@@ -7,11 +7,11 @@ use Rattle.arena.proofs.children.place.Statement.{statement}
 use Rattle.arena.proofs.children.place.Tie as tie
 
 add-result : tie.Need-overflow_add-result
-add-result c = omega (arith, nodes_small c.before.before.args.s c.before.before.requires.0, c.node_cap.ensures)
+add-result c = omega (arith, nodes_small c.args.s c.requires.0, c.node_cap.ensures)
 
 returns : tie.Need-returns-then-leaf
 unfolding child_slot
-returns c = rw (c.before.if-leaf.true, c.node_cap.ensures)
+returns c = rw (c.if-leaf.true, c.node_cap.ensures)
 
 returns-2 : tie.Need-returns-else-leaf
 unfolding child_slot

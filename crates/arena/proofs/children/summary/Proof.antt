@@ -20,7 +20,7 @@ returns c =
     let start = c.before.before.before in
     let s = start.args.s in
     let fs = start.args.floats.now in
-    λ ls. c.load.ensures ∙ ap (summary_at s fs) c.before.place-at.ensures ∙ sym
+    λ ls. c.load.ensures ∙ ap (summary_at s fs) c.place-at.ensures ∙ sym
     (child-at s start.args.n fs ls start.args.leaf start.args.i start.requires.1)
 
 pub summary_spec : {M : Type 1} → statement M

@@ -13,23 +13,23 @@ use Rattle.arena.proofs.clear.floats.Tie as tie
 
 -- where the nodes' slots end, and what the counts take of either part
 rooms : (c : tie.After-slot_width)
-    → Rooms c.before.before.before.args.s c.before.before.before.args.n (c.before.node_cap.result * c.slot_width.result)
+    → Rooms c.args.s c.args.n (c.node_cap.result * c.slot_width.result)
 rooms c =
     let start = c.before.before.before in
-    slots_room start.args.s start.args.n _ c.before.node_cap.result c.slot_width.result start.requires.0
-    c.before.node_cap.ensures c.slot_width.ensures
+    slots_room start.args.s start.args.n _ c.node_cap.result c.slot_width.result start.requires.0
+    c.node_cap.ensures c.slot_width.ensures
 
 -- with the nodes' slots tidied, the slice is as long as it was
 long : (c : tie.After-slice_known-2-1)
-    → length (put_mid 0 (c.before.before.before.before.before.node_cap.result * c.before.before.before.before.slot_width.result - 0)
-    c.before.before.before.before.before.before.before.args.floats.now c.before.before.slots.new.1.1.0) ≡ length
-    c.before.before.before.before.before.before.before.args.floats.now
+    → length (put_mid 0 (c.node_cap.result * c.slot_width.result - 0)
+    c.args.floats.now c.slots.new.1.1.0) ≡ length
+    c.args.floats.now
 long c =
-    let node-cap = c.before.before.before.before.before.node_cap in
-    let slot-width = c.before.before.before.before.slot_width in
+    let node-cap = c.node_cap in
+    let slot-width = c.slot_width in
     let start = c.before.before.before.before.before.before.before in
-    same_len_mid 0 (node-cap.result * slot-width.result - 0) start.args.floats.now c.before.before.slots.new.1.1.0
-    c.before.before.slots.auto.1.1.0
+    same_len_mid 0 (node-cap.result * slot-width.result - 0) start.args.floats.now c.slots.new.1.1.0
+    c.slots.auto.p
 
 slots-requires : tie.Need-slots-requires
 slots-requires c κs =
@@ -47,14 +47,14 @@ slots-requires-2 c κs =
 returns : tie.Need-returns
 unfolding put_stretch
 returns c =
-    let node-cap = c.before.before.before.before.before.before.before.before.before.node_cap in
-    let slot-width = c.before.before.before.before.before.before.before.before.slot_width in
-    let slots = c.before.before.before.before.before.before.slots in
+    let node-cap = c.node_cap in
+    let slot-width = c.slot_width in
+    let slots = c.slots in
     let start = c.before.before.before.before.before.before.before.before.before.before.before in
     let end = node-cap.result * slot-width.result in
     λ ls. floats_tidied start.args.s start.args.n start.args.floats.now ls _ start.requires.0 start.requires.1 end (end - 0)
-    slots.new.1.1.0 c.before.before.slots-2.new.1.1.0 (rooms c.before.before.before.before.before.before.before.before).end
-    (omega arith) slots.auto.1.1.0 slots.ensures c.before.before.slots-2.ensures
+    slots.new.1.1.0 c.slots-2.new.1.1.0 (rooms c.before.before.before.before.before.before.before.before).end
+    (omega arith) slots.auto.1.1.0 slots.ensures c.slots-2.ensures
 
 pub floats_spec : {M : Type 1} → statement M
 floats_spec =

@@ -24,23 +24,23 @@ decreases-loop s links₀ w k i₀ links i = k - i
 
 -- in a turn, piece i is there
 fits : (c : tie.In-loop-i invariant-loop decreases-loop)
-    → (c.before.loop-i.i * c.before.before.block_width-w.result + c.before.before.block_width-w.result ≤ length
-    c.before.before.before.before.args.links.now)
-    × (c.before.loop-i.i * block_width c.before.before.before.before.args.s ≤ length c.before.before.before.before.args.links.now)
+    → (c.loop-i.i * c.block_width-w.result + c.block_width-w.result ≤ length
+    c.args.links.now)
+    × (c.loop-i.i * block_width c.args.s ≤ length c.args.links.now)
 fits c =
     let start = c.before.before.before.before in
-    turn_room c.before.loop-i.i start.args.n.nodes c.before.before.block_width-w.result (block_width start.args.s)
-    (length start.args.links.now) c.loop-i-test.true c.before.before.block_width-w.ensures
+    turn_room c.loop-i.i start.args.n.nodes c.block_width-w.result (block_width start.args.s)
+    (length start.args.links.now) c.loop-i-test.true c.block_width-w.ensures
     (blocks_room start.args.s start.args.n _ start.requires.0)
 
 -- and so are all pieces
-all : (c : tie.After-slice_known-1 invariant-loop decreases-loop) → c.before.args.n.nodes * block_width c.before.args.s ≤ length c.before.args.links.now
+all : (c : tie.After-slice_known-1 invariant-loop decreases-loop) → c.args.n.nodes * block_width c.args.s ≤ length c.args.links.now
 all c = let start = c.before in blocks_room start.args.s start.args.n _ start.requires.0
 
 end : (c : tie.After-loop-i invariant-loop decreases-loop)
-    → c.before.before.before.before.args.n.nodes * c.before.before.block_width-w.result ≤ length
-    c.before.before.before.before.args.links.now
-end c = rw c.before.before.block_width-w.ensures (all c.before.before.before)
+    → c.args.n.nodes * c.block_width-w.result ≤ length
+    c.args.links.now
+end c = rw c.block_width-w.ensures (all c.before.before.before)
 
 loop-holds : tie.Need-loop-i-init invariant-loop decreases-loop
 loop-holds c =
@@ -53,47 +53,47 @@ loop-holds c =
 
 tidy-requires : tie.Need-tidy-requires invariant-loop decreases-loop
 tidy-requires c κs =
-    let block-width = c.before.before.before.block_width-w in
+    let block-width = c.block_width-w in
     let start = c.before.before.before.before.before in
     let room = fits c.before in
-    block_of start.args.s c.before.before.loop-i.links c.before.before.loop-i.i block-width.result
+    block_of start.args.s c.loop-i.links c.loop-i.i block-width.result
     (record { sized = start.requires.0.sized; room = rw (sym block-width.ensures) (omega arith) }) block-width.ensures
 
 loop-again : tie.Need-loop-i-preserved invariant-loop decreases-loop
 unfolding put_stretch tidy_block
 loop-again c =
-    let loop = c.before.before.before.before.before.loop-i in
-    let block-width = c.before.before.before.before.before.before.block_width-w in
+    let loop = c.loop-i in
+    let block-width = c.block_width-w in
     let start = c.before.before.before.before.before.before.before.before in
     let s = start.args.s in
     let i = loop.i in
     let w = block-width.result in (
       omega arith,
-      same_len_mid (i * w) (i * w + w - i * w) loop.links c.before.before.tidy.new.1.0 c.before.before.tidy.auto.1.0
+      same_len_mid (i * w) (i * w + w - i * w) loop.links c.tidy.new.b c.tidy.auto.b
           ∙ loop.invariant.1,
       partly_turn (tidy_block s) (block_width s) (block_keeps s start.requires.0.sized) start.args.links.now i w loop.links
-          c.before.before.tidy.new.1.0 block-width.ensures (fits c.before.before.before.before).1 loop.invariant.2
-          (c.before.before.tidy.ensures []),
+          c.tidy.new.b block-width.ensures (fits c.before.before.before.before).1 loop.invariant.2
+          (c.tidy.ensures []),
     )
 
 same_length : tie.Need-shape_of-links invariant-loop decreases-loop
 same_length c =
-    let block-width = c.before.before.before.before.before.before.block_width-w in
-    let loop = c.before.before.before.before.before.loop-i in
+    let block-width = c.block_width-w in
+    let loop = c.loop-i in
     let start = c.before.before.before.before.before.before.before.before in
     let at = start.args.n.nodes * block-width.result in
-    same_len_mid at (length loop.links - at) loop.links c.before.before.zero.new.0 c.before.before.zero.auto.0 ∙ loop.invariant.1
+    same_len_mid at (length loop.links - at) loop.links c.zero.new.b c.zero.auto.b ∙ loop.invariant.1
 
 returns : tie.Need-returns invariant-loop decreases-loop
 unfolding put_stretch
 returns c =
-    let loop = c.before.before.before.before.before.loop-i in
-    let block-width = c.before.before.before.before.before.before.block_width-w in
+    let loop = c.loop-i in
+    let block-width = c.block_width-w in
     let start = c.before.before.before.before.before.before.before.before in
     let s = start.args.s in
     λ fs. partly_end (tidy_block s) (block_width s) (block_keeps s start.requires.0.sized) start.args.links.now 0 loop.i block-width.result
-    start.args.n.nodes loop.links c.before.before.zero.new.0 block-width.ensures (omega arith)
-    (all c.before.before.before.before.before.before.before) loop.invariant.2 c.before.before.zero.ensures ∙ links_tidied
+    start.args.n.nodes loop.links c.zero.new.b block-width.ensures (omega arith)
+    (all c.before.before.before.before.before.before.before) loop.invariant.2 c.zero.ensures ∙ links_tidied
     start.args.s start.args.n fs start.args.links.now start.requires.1
 
 pub links_spec : {M : Type 1} → statement M

@@ -23,21 +23,21 @@ decreases-loop s k p₀ w i₀ p i = k - i
 
 -- in a turn, piece i is there
 fits : (c : tie.In-loop-i invariant-loop decreases-loop)
-    → (c.before.loop-i.i * c.before.before.slot_width-w.result + c.before.before.slot_width-w.result ≤ length
-    c.before.before.before.before.args.p.now)
-    × (c.before.loop-i.i * slot_width c.before.before.before.before.args.s ≤ length c.before.before.before.before.args.p.now)
+    → (c.loop-i.i * c.slot_width-w.result + c.slot_width-w.result ≤ length
+    c.args.p.now)
+    × (c.loop-i.i * slot_width c.args.s ≤ length c.args.p.now)
 fits c =
     let start = c.before.before.before.before in
-    turn_room c.before.loop-i.i start.args.k c.before.before.slot_width-w.result (slot_width start.args.s)
-    (length start.args.p.now) c.loop-i-test.true c.before.before.slot_width-w.ensures start.requires.1
+    turn_room c.loop-i.i start.args.k c.slot_width-w.result (slot_width start.args.s)
+    (length start.args.p.now) c.loop-i-test.true c.slot_width-w.ensures start.requires.1
 
 -- and so are all pieces
-all : (c : tie.After-slice_known-1 invariant-loop decreases-loop) → c.before.args.k * slot_width c.before.args.s ≤ length c.before.args.p.now
+all : (c : tie.After-slice_known-1 invariant-loop decreases-loop) → c.args.k * slot_width c.args.s ≤ length c.args.p.now
 all c = let start = c.before in start.requires.1
 
 end : (c : tie.After-loop-i invariant-loop decreases-loop)
-    → c.before.before.before.before.args.k * c.before.before.slot_width-w.result ≤ length c.before.before.before.before.args.p.now
-end c = rw c.before.before.slot_width-w.ensures (all c.before.before.before)
+    → c.args.k * c.slot_width-w.result ≤ length c.args.p.now
+end c = rw c.slot_width-w.ensures (all c.before.before.before)
 
 loop-holds : tie.Need-loop-i-init invariant-loop decreases-loop
 loop-holds c =
@@ -50,49 +50,49 @@ loop-holds c =
 
 tidy-requires : tie.Need-tidy-requires invariant-loop decreases-loop
 tidy-requires c κs =
-    let slot-width = c.before.before.before.slot_width-w in
+    let slot-width = c.slot_width-w in
     let start = c.before.before.before.before.before in
     let room = fits c.before in (
       start.requires.0,
-      slot_long start.args.s c.before.before.loop-i.p c.before.before.loop-i.i slot-width.result
+      slot_long start.args.s c.loop-i.p c.loop-i.i slot-width.result
           (record { sized = start.requires.0; room = rw (sym slot-width.ensures) (omega arith) }) slot-width.ensures,
     )
 
 loop-again : tie.Need-loop-i-preserved invariant-loop decreases-loop
 unfolding put_stretch tidy_slot
 loop-again c =
-    let loop = c.before.before.before.before.before.loop-i in
-    let slot-width = c.before.before.before.before.before.before.slot_width-w in
+    let loop = c.loop-i in
+    let slot-width = c.slot_width-w in
     let start = c.before.before.before.before.before.before.before.before in
     let s = start.args.s in
     let i = loop.i in
     let w = slot-width.result in (
       omega arith,
-      same_len_mid (i * w) (i * w + w - i * w) loop.p c.before.before.tidy.new.1.0 c.before.before.tidy.auto.1.0
+      same_len_mid (i * w) (i * w + w - i * w) loop.p c.tidy.new.p c.tidy.auto.p
           ∙ loop.invariant.1,
       partly_turn (tidy_slot s) (slot_width s) (slot_keeps s start.requires.0) start.args.p.now i w loop.p
-          c.before.before.tidy.new.1.0 slot-width.ensures (fits c.before.before.before.before).1 loop.invariant.2
-          c.before.before.tidy.ensures,
+          c.tidy.new.p slot-width.ensures (fits c.before.before.before.before).1 loop.invariant.2
+          c.tidy.ensures,
     )
 
 same_length : tie.Need-shape_of-p invariant-loop decreases-loop
 same_length c =
-    let slot-width = c.before.before.before.before.before.before.slot_width-w in
-    let loop = c.before.before.before.before.before.loop-i in
+    let slot-width = c.slot_width-w in
+    let loop = c.loop-i in
     let start = c.before.before.before.before.before.before.before.before in
     let at = start.args.k * slot-width.result in
-    same_len_mid at (length loop.p - at) loop.p c.before.before.zero.new.0 c.before.before.zero.auto.0 ∙ loop.invariant.1
+    same_len_mid at (length loop.p - at) loop.p c.zero.new.p c.zero.auto.p ∙ loop.invariant.1
 
 returns : tie.Need-returns invariant-loop decreases-loop
 unfolding put_stretch
 returns c =
-    let loop = c.before.before.before.before.before.loop-i in
-    let slot-width = c.before.before.before.before.before.before.slot_width-w in
+    let loop = c.loop-i in
+    let slot-width = c.slot_width-w in
     let start = c.before.before.before.before.before.before.before.before in
     let s = start.args.s in
     partly_end (tidy_slot s) (slot_width s) (slot_keeps s start.requires.0) start.args.p.now f0 loop.i slot-width.result start.args.k
-    loop.p c.before.before.zero.new.0 slot-width.ensures (omega arith) (all c.before.before.before.before.before.before.before)
-    loop.invariant.2 c.before.before.zero.ensures
+    loop.p c.zero.new.p slot-width.ensures (omega arith) (all c.before.before.before.before.before.before.before)
+    loop.invariant.2 c.zero.ensures
 
 pub slots_spec : {M : Type 1} → statement M
 slots_spec =

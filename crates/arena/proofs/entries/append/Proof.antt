@@ -20,7 +20,7 @@ add_at c =
 store-requires : tie.Need-store-requires
 store-requires c κs =
     let start = c.before.before.before in (
-      next_place start.args.s start.args.n _ c.before.node_cap.result start.requires.0 start.requires.1 c.before.node_cap.ensures,
+      next_place start.args.s start.args.n _ c.node_cap.result start.requires.0 start.requires.1 c.node_cap.ensures,
       start.requires.2,
     )
 
@@ -32,13 +32,13 @@ add-with-entries c =
 
 returns : tie.Need-returns
 returns c =
-    let store = c.before.before.before.store in
-    let node-cap = c.before.before.before.before.before.node_cap in
+    let store = c.store in
+    let node-cap = c.node_cap in
     let start = c.before.before.before.before.before.before.before in
     let s = start.args.s in
     let n = start.args.n in
     let fs = start.args.floats.now in
-    let fs' = store.new.1.0 in
+    let fs' = store.new.floats in
     let k : Changed s (λ _. start.args.c) (node_cap s + n.entries) fs fs' = rw (sym node-cap.ensures) store.ensures in (
       c.with_entries.ensures,
       λ ls. ap (λ m. tree_of s m fs' ls) c.with_entries.ensures ∙ entry_more s n fs fs' ls _ start.requires.0

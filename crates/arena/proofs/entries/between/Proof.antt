@@ -36,9 +36,9 @@ returns c =
     let s = start.args.s in
     let fs = start.args.floats.now in
     λ ls. c.between.ensures ∙ ap₂ (λ x y. between_of start.args.k s.feature s.dim x y)
-    (ap (λ r. summary_at s fs (r + start.args.i)) c.before.node_cap-cap.ensures ∙ sym
+    (ap (λ r. summary_at s fs (r + start.args.i)) c.node_cap-cap.ensures ∙ sym
     (entry_at_lem s start.args.n fs ls start.args.i start.requires.1))
-    (ap (λ r. summary_at s fs (r + start.args.j)) c.before.node_cap-cap.ensures ∙ sym
+    (ap (λ r. summary_at s fs (r + start.args.j)) c.node_cap-cap.ensures ∙ sym
     (entry_at_lem s start.args.n fs ls start.args.j start.requires.2))
 
 pub between_spec : {M : Type 1} → statement M

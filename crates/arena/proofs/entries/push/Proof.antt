@@ -20,21 +20,21 @@ add_at c =
 push-requires : tie.Need-push-requires
 push-requires c κs =
     let start = c.before.before.before.before in (
-      entry_place start.args.s start.args.n _ start.args.i c.before.node_cap.result start.requires.0 start.requires.1
-          c.before.node_cap.ensures,
+      entry_place start.args.s start.args.n _ start.args.i c.node_cap.result start.requires.0 start.requires.1
+          c.node_cap.ensures,
       start.requires.2,
     )
 
 returns : tie.Need-returns
 returns c =
-    let node-cap = c.before.before.before.before.node_cap in
+    let node-cap = c.node_cap in
     let start = c.before.before.before.before.before.before.before in
     let s = start.args.s in
     let i = start.args.i in
     let fs = start.args.floats.now in
-    let fs' = c.before.before.push.new.1.0 in
+    let fs' = c.push.new.floats in
     let k : Changed s (λ x. pushed s.feature s.dim x start.args.row.now) (node_cap s + i) fs fs' = rw (sym node-cap.ensures)
-    c.before.before.push.ensures in
+    c.push.ensures in
     λ ls. entry_changed s start.args.n fs fs' ls _ start.requires.0 (λ x. pushed s.feature s.dim x start.args.row.now) i start.requires.1
     k
 

@@ -26,7 +26,7 @@ returns c =
     let s = start.args.s in
     let fs = start.args.floats.now in
     λ ls. c.to_summary.ensures ∙ ap (λ x. between_of start.args.k s.feature s.dim x start.args.c)
-    (ap (λ r. summary_at s fs (r + start.args.i)) c.before.node_cap.ensures ∙ sym
+    (ap (λ r. summary_at s fs (r + start.args.i)) c.node_cap.ensures ∙ sym
     (entry_at_lem s start.args.n fs ls start.args.i start.requires.1))
 
 pub to_summary_spec : {M : Type 1} → statement M

@@ -24,7 +24,7 @@ returns c =
     let start = c.before.before.before in
     let s = start.args.s in
     let fs = start.args.floats.now in
-    λ ls. c.weight.ensures ∙ ap (λ x. x.weight) (ap (λ r. summary_at s fs (r + start.args.i)) c.before.node_cap.ensures ∙ sym
+    λ ls. c.weight.ensures ∙ ap (λ x. x.weight) (ap (λ r. summary_at s fs (r + start.args.i)) c.node_cap.ensures ∙ sym
     (entry_at_lem s start.args.n fs ls start.args.i start.requires.1))
 
 pub weight_spec : {M : Type 1} → statement M

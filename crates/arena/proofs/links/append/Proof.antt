@@ -14,35 +14,35 @@ use Rattle.arena.proofs.links.append.Tie as tie
 
 -- block i is there, by the width that the code has worked out
 fits : (c : tie.After-block_width-w)
-    → c.before.before.args.i * c.block_width-w.result + c.block_width-w.result ≤ length c.before.before.args.links.now
+    → c.args.i * c.block_width-w.result + c.block_width-w.result ≤ length c.args.links.now
 fits c =
     let start = c.before.before in
     block_fits start.args.s start.args.links.now start.args.i c.block_width-w.result
-    (node_block start.args.s start.args.n _ start.args.i start.requires.links.0 start.requires.links.1) c.block_width-w.ensures
+    (node_block start.args.s start.args.n _ start.args.i start.requires.0.0 start.requires.0.1) c.block_width-w.ensures
 
 append-requires : tie.Need-append-requires
 append-requires c κs =
     let start = c.before.before.before in (
-      block_of start.args.s start.args.links.now start.args.i c.before.block_width-w.result
-          (node_block start.args.s start.args.n _ start.args.i start.requires.links.0 start.requires.links.1) c.before.block_width-w.ensures,
-      start.requires.links.2,
-      rw (block_cut start.args.s start.args.links.now start.args.i c.before.block_width-w.result
-          (node_block start.args.s start.args.n _ start.args.i start.requires.links.0 start.requires.links.1) c.before.block_width-w.ensures)
-          (list_there start.args.s start.args.n start.args.links.now start.args.i start.requires.links.1
-          (λ l. length l + 2 < block_width start.args.s) start.requires.any_floats),
+      block_of start.args.s start.args.links.now start.args.i c.block_width-w.result
+          (node_block start.args.s start.args.n _ start.args.i start.requires.0.0 start.requires.0.1) c.block_width-w.ensures,
+      start.requires.0.2,
+      rw (block_cut start.args.s start.args.links.now start.args.i c.block_width-w.result
+          (node_block start.args.s start.args.n _ start.args.i start.requires.0.0 start.requires.0.1) c.block_width-w.ensures)
+          (list_there start.args.s start.args.n start.args.links.now start.args.i start.requires.0.1
+          (λ l. length l + 2 < block_width start.args.s) start.requires.1),
     )
 
 returns : tie.Need-returns
 unfolding put_stretch
 returns c =
-    let block-width = c.before.before.before.before.block_width-w in
+    let block-width = c.block_width-w in
     let start = c.before.before.before.before.before.before in
     let s = start.args.s in
-    λ fs. node_relinked s start.args.n fs start.args.links.now _ (adding start.args.k) start.args.i start.requires.links.1
+    λ fs. node_relinked s start.args.n fs start.args.links.now _ (adding start.args.k) start.args.i start.requires.0.1
     (block_put s start.args.links.now start.args.i block-width.result
-    (node_block start.args.s start.args.n _ start.args.i start.requires.links.0 start.requires.links.1) block-width.ensures
-    (adding start.args.k) c.before.before.append.new.1.1.0 c.before.before.append.auto.1.1.0
-    c.before.before.append.ensures)
+    (node_block start.args.s start.args.n _ start.args.i start.requires.0.0 start.requires.0.1) block-width.ensures
+    (adding start.args.k) c.append.new.1.1.0 c.append.auto.b
+    c.append.ensures)
 
 pub append_spec : {M : Type 1} → statement M
 append_spec =

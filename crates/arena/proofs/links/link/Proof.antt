@@ -12,7 +12,7 @@ use Rattle.arena.proofs.links.link.Tie as tie
 
 -- block i is there, by the width that the code has worked out
 fits : (c : tie.After-block_width-w)
-    → c.before.before.before.args.i * c.block_width-w.result + c.block_width-w.result ≤ length c.before.before.before.args.links.now
+    → c.args.i * c.block_width-w.result + c.block_width-w.result ≤ length c.args.links.now
 fits c =
     let start = c.before.before.before in
     block_fits start.args.s start.args.links.now start.args.i c.block_width-w.result start.requires.0 c.block_width-w.ensures
@@ -20,8 +20,8 @@ fits c =
 link-requires : tie.Need-link-requires
 link-requires c κs =
     let start = c.before.before.before.before in (
-      block_of start.args.s start.args.links.now start.args.i c.before.block_width-w.result start.requires.0
-          c.before.block_width-w.ensures,
+      block_of start.args.s start.args.links.now start.args.i c.block_width-w.result start.requires.0
+          c.block_width-w.ensures,
       start.requires.1,
       start.requires.2,
       start.requires.3,
@@ -30,13 +30,13 @@ link-requires c κs =
 returns : tie.Need-returns
 unfolding put_stretch
 returns c =
-    let block-width = c.before.before.before.before.block_width-w in
+    let block-width = c.block_width-w in
     let start = c.before.before.before.before.before.before.before in
     let s = start.args.s in
     block_put s start.args.links.now start.args.i block-width.result start.requires.0 block-width.ensures
     (relinked (parent_of start.args.parent) start.args.leaf (take start.args.len start.args.list.now))
-    c.before.before.link.new.1.1.1.1.1.0 c.before.before.link.auto.1.1.1.1.1.0
-    (λ p. c.before.before.link.ensures p ∙ linked-is s p _ _ _ _)
+    c.link.new.1.1.1.1.1.0 c.link.auto.b
+    (λ p. c.link.ensures p ∙ linked-is s p _ _ _ _)
 
 pub link_spec : {M : Type 1} → statement M
 link_spec =

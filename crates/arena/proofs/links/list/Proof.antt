@@ -21,7 +21,7 @@ returns c =
     let start = c.before.before.before in
     let s = start.args.s in
     λ fs. let p = slot_at s fs start.args.i in
-    c.list.ensures p ∙ ap (λ b. (node_in s p b).list) c.before.part.ensures
+    c.list.ensures p ∙ ap (λ b. (node_in s p b).list) c.part.ensures
     ∙ part_at s start.args.n fs start.args.links.now (λ m. m.list) start.args.i start.requires.1
 
 pub list_spec : {M : Type 1} → statement M

@@ -27,7 +27,7 @@ returns c =
     let start = c.before.before.before in
     let s = start.args.s in
     let part : Node → ℕ = λ m. get_or m.list start.args.k 0 in (
-      λ fs. let p = slot_at s fs start.args.i in c.list_at.ensures.0 p ∙ ap (λ b. part (node_in s p b)) c.before.part.ensures ∙ part_at s
+      λ fs. let p = slot_at s fs start.args.i in c.list_at.ensures.0 p ∙ ap (λ b. part (node_in s p b)) c.part.ensures ∙ part_at s
           start.args.n fs start.args.links.now part start.args.i start.requires.1,
       c.list_at.ensures.1,
     )

@@ -23,7 +23,7 @@ returns c =
     let s = start.args.s in
     let part : Node → _ = λ m. length m.list in
     λ fs. let p = slot_at s fs start.args.i in
-    c.list_len.ensures p ∙ ap (λ b. part (node_in s p b)) c.before.part.ensures ∙ part_at s start.args.n fs start.args.links.now part
+    c.list_len.ensures p ∙ ap (λ b. part (node_in s p b)) c.part.ensures ∙ part_at s start.args.n fs start.args.links.now part
     start.args.i start.requires.1
 
 pub list_len_spec : {M : Type 1} → statement M

@@ -22,7 +22,7 @@ returns c =
     let s = start.args.s in
     let part : Node → _ = λ m. m.parent in
     λ fs. let p = slot_at s fs start.args.i in
-    c.parent_of.ensures p ∙ ap (λ b. part (node_in s p b)) c.before.part.ensures ∙ part_at s start.args.n fs start.args.links.now part
+    c.parent_of.ensures p ∙ ap (λ b. part (node_in s p b)) c.part.ensures ∙ part_at s start.args.n fs start.args.links.now part
     start.args.i start.requires.1
 
 pub parent_spec : {M : Type 1} → statement M

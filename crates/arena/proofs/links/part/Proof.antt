@@ -9,7 +9,7 @@ use Rattle.arena.proofs.links.part.Tie as tie
 
 -- block i is there, by the width that the code has worked out
 fits : (c : tie.After-block_width-w)
-    → c.before.before.args.i * c.block_width-w.result + c.block_width-w.result ≤ length c.before.before.args.links.now
+    → c.args.i * c.block_width-w.result + c.block_width-w.result ≤ length c.args.links.now
 fits c =
     let start = c.before.before in
     block_fits start.args.s start.args.links.now start.args.i c.block_width-w.result start.requires c.block_width-w.ensures
@@ -17,8 +17,8 @@ fits c =
 returns : tie.Need-returns
 returns c =
     let start = c.before.before.before in
-    block_cut start.args.s start.args.links.now start.args.i c.before.block_width-w.result start.requires
-    c.before.block_width-w.ensures
+    block_cut start.args.s start.args.links.now start.args.i c.block_width-w.result start.requires
+    c.block_width-w.ensures
 
 pub part_spec : {M : Type 1} → statement M
 part_spec =

@@ -13,7 +13,7 @@ use Rattle.arena.proofs.links.set_list.Tie as tie
 
 -- block i is there, by the width that the code has worked out
 fits : (c : tie.After-block_width-w)
-    → c.before.before.before.args.i * c.block_width-w.result + c.block_width-w.result ≤ length c.before.before.before.args.links.now
+    → c.args.i * c.block_width-w.result + c.block_width-w.result ≤ length c.args.links.now
 fits c =
     let start = c.before.before.before in
     block_fits start.args.s start.args.links.now start.args.i c.block_width-w.result
@@ -22,8 +22,8 @@ fits c =
 set-list-requires : tie.Need-set_list-requires
 set-list-requires c κs =
     let start = c.before.before.before.before in (
-      block_of start.args.s start.args.links.now start.args.i c.before.block_width-w.result
-          (node_block start.args.s start.args.n _ start.args.i start.requires.0 start.requires.1) c.before.block_width-w.ensures,
+      block_of start.args.s start.args.links.now start.args.i c.block_width-w.result
+          (node_block start.args.s start.args.n _ start.args.i start.requires.0 start.requires.1) c.block_width-w.ensures,
       start.requires.2,
       start.requires.3,
     )
@@ -31,14 +31,14 @@ set-list-requires c κs =
 returns : tie.Need-returns
 unfolding put_stretch
 returns c =
-    let block-width = c.before.before.before.before.block_width-w in
+    let block-width = c.block_width-w in
     let start = c.before.before.before.before.before.before.before in
     let s = start.args.s in
     λ fs. node_relinked s start.args.n fs start.args.links.now _ (with_list (take start.args.len start.args.list.now))
     start.args.i start.requires.1 (block_put s start.args.links.now start.args.i block-width.result
     (node_block start.args.s start.args.n _ start.args.i start.requires.0 start.requires.1) block-width.ensures
-    (with_list (take start.args.len start.args.list.now)) c.before.before.set_list.new.1.1.1.0
-    c.before.before.set_list.auto.1.1.1.0 c.before.before.set_list.ensures)
+    (with_list (take start.args.len start.args.list.now)) c.set_list.new.1.1.1.0
+    c.set_list.auto.b c.set_list.ensures)
 
 pub set_list_spec : {M : Type 1} → statement M
 set_list_spec =

@@ -13,37 +13,37 @@ use Rattle.arena.proofs.nodes.append.Tie as tie
 store-requires : tie.Need-store-requires
 store-requires c κs =
     let start = c.before.before.before.before in
-    let room = start.requires.floats.2 in
-    (slot_in start.args.s start.args.n _ start.args.n.nodes start.requires.floats.0 (omega arith), start.requires.floats.3)
+    let room = start.requires.0.2 in
+    (slot_in start.args.s start.args.n _ start.args.n.nodes start.requires.0.0 (omega arith), start.requires.0.3)
 
 link-requires : tie.Need-link-requires
 link-requires c κs =
     let start = c.before.before.before.before.before.before.before.before in (
-      block_in start.args.s start.args.n _ start.args.n.nodes start.requires.floats.1 start.requires.floats.2,
-      start.requires.parent_fits.0,
-      start.requires.parent_fits.1,
-      start.requires.parent_fits.2,
+      block_in start.args.s start.args.n _ start.args.n.nodes start.requires.0.1 start.requires.0.2,
+      start.requires.1.0,
+      start.requires.1.1,
+      start.requires.1.2,
     )
 
 add-with-nodes : tie.Need-overflow_add-i
 add-with-nodes c =
     let start = c.before.before.before.before.before.before.before.before.before.before.before in
-    let k = caps_small start.args.s start.args.n _ start.requires.floats.0 in
-    omega (arith, start.requires.floats.2)
+    let k = caps_small start.args.s start.args.n _ start.requires.0.0 in
+    omega (arith, start.requires.0.2)
 
 returns : tie.Need-returns
 unfolding node_of
 returns c =
-    let store = c.before.before.before.before.before.before.before.store in
-    let link = c.before.before.before.link in
+    let store = c.store in
+    let link = c.link in
     let start = c.before.before.before.before.before.before.before.before.before.before.before.before in
     let a = start.args in
-    let fs' = store.new.1.0 in
-    let ls' = link.new.1.0 in
+    let fs' = store.new.floats in
+    let ls' = link.new.links in
     let new = node_of a.c (parent_of a.parent) a.leaf (take a.len a.list.now) in (
       c.with_nodes.ensures,
       ap (λ m. tree_of a.s m fs' ls') c.with_nodes.ensures ∙ node_more a.s a.n a.floats.now fs' a.links.now
-          ls' new start.requires.floats.2 store.ensures link.ensures,
+          ls' new start.requires.0.2 store.ensures link.ensures,
     )
 
 pub append_spec : {M : Type 1} → statement M

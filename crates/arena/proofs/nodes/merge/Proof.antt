@@ -15,8 +15,8 @@ returns : tie.Need-returns
 returns c =
     let start = c.before.before.before.before.before in
     let s = start.args.s in
-    λ ls. node_changed s start.args.n start.args.floats.now c.before.before.merge.new.1.0 ls _ start.requires.0
-    (λ x. merged s.feature s.dim x start.args.c) start.args.i start.requires.1 c.before.before.merge.ensures
+    λ ls. node_changed s start.args.n start.args.floats.now c.merge.new.floats ls _ start.requires.0
+    (λ x. merged s.feature s.dim x start.args.c) start.args.i start.requires.1 c.merge.ensures
 
 pub merge_spec : {M : Type 1} → statement M
 merge_spec = tie.close (tie.spec merge-requires (λ c. search rules) returns)

@@ -15,8 +15,8 @@ returns : tie.Need-returns
 returns c =
     let start = c.before.before.before.before.before.before in
     let s = start.args.s in
-    λ ls. node_changed s start.args.n start.args.floats.now c.before.before.push.new.1.0 ls _ start.requires.0
-    (λ x. pushed s.feature s.dim x start.args.row.now) start.args.i start.requires.1 c.before.before.push.ensures
+    λ ls. node_changed s start.args.n start.args.floats.now c.push.new.floats ls _ start.requires.0
+    (λ x. pushed s.feature s.dim x start.args.row.now) start.args.i start.requires.1 c.push.ensures
 
 pub push_spec : {M : Type 1} → statement M
 push_spec = tie.close (tie.spec push-requires (λ c. search rules) returns)

@@ -14,8 +14,8 @@ returns : tie.Need-returns
 returns c =
     let start = c.before.before.before.before.before in
     let s = start.args.s in
-    λ ls. node_changed s start.args.n start.args.floats.now c.before.before.store.new.1.0 ls _ start.requires.0 (λ _. start.args.c)
-    start.args.i start.requires.1 c.before.before.store.ensures
+    λ ls. node_changed s start.args.n start.args.floats.now c.store.new.floats ls _ start.requires.0 (λ _. start.args.c)
+    start.args.i start.requires.1 c.store.ensures
 
 pub put_spec : {M : Type 1} → statement M
 put_spec = tie.close (tie.spec store-requires (λ c. search rules) returns)

@@ -13,7 +13,7 @@ between-requires c κs =
     let s = start.args.s in
     let fs = start.args.floats.now in (
       start.requires.0.sized,
-      rw c.before.part.ensures (slot_at_long s fs start.args.i start.requires.0),
+      rw c.part.ensures (slot_at_long s fs start.args.i start.requires.0),
       rw c.part-2.ensures
           (slot_at_long s fs start.args.j start.requires.1),
     )
@@ -24,7 +24,7 @@ returns c =
     let start = c.before.before.before.before in
     let s = start.args.s in
     c.between.ensures ∙ ap₂ (λ p q. between_of start.args.k s.feature s.dim (summary_in s p) (summary_in s q))
-    c.before.before.part.ensures c.before.part-2.ensures
+    c.part.ensures c.part-2.ensures
 
 pub between_spec : {M : Type 1} → statement M
 between_spec = tie.close (tie.spec (λ c κs. search rules) (λ c κs. search rules) between-requires returns)

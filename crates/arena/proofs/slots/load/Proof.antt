@@ -13,7 +13,7 @@ load-requires c κs =
 
 returns : tie.Need-returns
 unfolding summary_at
-returns c = let start = c.before.before.before in c.load.ensures ∙ ap (summary_in start.args.s) c.before.part.ensures
+returns c = let start = c.before.before.before in c.load.ensures ∙ ap (summary_in start.args.s) c.part.ensures
 
 pub load_spec : {M : Type 1} → statement M
 load_spec = tie.close (tie.spec (λ c κs. search rules) load-requires returns)

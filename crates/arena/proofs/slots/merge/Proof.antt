@@ -11,7 +11,7 @@ use Rattle.arena.proofs.slots.merge.Tie as tie
 
 -- slot i is there, by the width that the code has worked out
 fits : (c : tie.After-slot_width-w)
-    → c.before.before.args.i * c.slot_width-w.result + c.slot_width-w.result ≤ length c.before.before.args.floats.now
+    → c.args.i * c.slot_width-w.result + c.slot_width-w.result ≤ length c.args.floats.now
 fits c =
     let start = c.before.before in
     slot_fits start.args.s start.args.floats.now start.args.i c.slot_width-w.result start.requires.0 c.slot_width-w.ensures
@@ -20,20 +20,20 @@ merge-requires : tie.Need-merge-requires
 merge-requires c κs =
     let start = c.before.before.before in (
       start.requires.0.sized,
-      slot_long start.args.s start.args.floats.now start.args.i c.before.slot_width-w.result start.requires.0
-          c.before.slot_width-w.ensures,
+      slot_long start.args.s start.args.floats.now start.args.i c.slot_width-w.result start.requires.0
+          c.slot_width-w.ensures,
       start.requires.1,
     )
 
 returns : tie.Need-returns
 unfolding put_stretch
 returns c =
-    let slot-width = c.before.before.before.before.slot_width-w in
+    let slot-width = c.slot_width-w in
     let start = c.before.before.before.before.before.before in
     let s = start.args.s in
     slot_put s start.args.floats.now start.args.i slot-width.result start.requires.0 slot-width.ensures
-    (λ x. merged s.feature s.dim x start.args.c) c.before.before.merge.new.1.0 c.before.before.merge.auto.1.0
-    c.before.before.merge.ensures
+    (λ x. merged s.feature s.dim x start.args.c) c.merge.new.p c.merge.auto.p
+    c.merge.ensures
 
 pub merge_spec : {M : Type 1} → statement M
 merge_spec =

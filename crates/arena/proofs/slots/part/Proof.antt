@@ -9,7 +9,7 @@ use Rattle.arena.proofs.slots.part.Tie as tie
 
 -- slot i is there, by the width that the code has worked out
 fits : (c : tie.After-slot_width-w)
-    → c.before.before.args.i * c.slot_width-w.result + c.slot_width-w.result ≤ length c.before.before.args.floats.now
+    → c.args.i * c.slot_width-w.result + c.slot_width-w.result ≤ length c.args.floats.now
 fits c =
     let start = c.before.before in
     slot_fits start.args.s start.args.floats.now start.args.i c.slot_width-w.result start.requires c.slot_width-w.ensures
@@ -17,8 +17,8 @@ fits c =
 returns : tie.Need-returns
 returns c =
     let start = c.before.before.before in
-    slot_cut start.args.s start.args.floats.now start.args.i c.before.slot_width-w.result start.requires
-    c.before.slot_width-w.ensures
+    slot_cut start.args.s start.args.floats.now start.args.i c.slot_width-w.result start.requires
+    c.slot_width-w.ensures
 
 pub part_spec : {M : Type 1} → statement M
 part_spec =

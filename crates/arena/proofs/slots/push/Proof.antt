@@ -11,7 +11,7 @@ use Rattle.arena.proofs.slots.push.Tie as tie
 
 -- slot i is there, by the width that the code has worked out
 fits : (c : tie.After-slot_width-w)
-    → c.before.before.before.args.i * c.slot_width-w.result + c.slot_width-w.result ≤ length c.before.before.before.args.floats.now
+    → c.args.i * c.slot_width-w.result + c.slot_width-w.result ≤ length c.args.floats.now
 fits c =
     let start = c.before.before.before in
     slot_fits start.args.s start.args.floats.now start.args.i c.slot_width-w.result start.requires.0 c.slot_width-w.ensures
@@ -19,7 +19,7 @@ fits c =
 push-requires : tie.Need-push-requires
 push-requires c κs =
     let start = c.before.before.before.before.before in
-    let width = c.before.before.slot_width-w in (
+    let width = c.slot_width-w in (
       start.requires.0.sized,
       slot_long start.args.s start.args.floats.now start.args.i width.result start.requires.0 width.ensures,
       rw (whole start.args.row.now) start.requires.1,
@@ -28,12 +28,12 @@ push-requires c κs =
 returns : tie.Need-returns
 unfolding put_stretch
 returns c =
-    let width = c.before.before.before.before.before.slot_width-w in
+    let width = c.slot_width-w in
     let start = c.before.before.before.before.before.before.before.before in
     let s = start.args.s in
     slot_put s start.args.floats.now start.args.i width.result start.requires.0 width.ensures
-    (λ x. pushed s.feature s.dim x start.args.row.now) c.before.before.push.new.1.0 c.before.before.push.auto.1.0
-    (rw (whole start.args.row.now) at c.before.before.push.ensures)
+    (λ x. pushed s.feature s.dim x start.args.row.now) c.push.new.p c.push.auto.p
+    (rw (whole start.args.row.now) at c.push.ensures)
 
 pub push_spec : {M : Type 1} → statement M
 push_spec =

@@ -13,7 +13,7 @@ use Rattle.arena.proofs.slots.store.Tie as tie
 
 -- slot i is there, by the width that the code has worked out
 fits : (c : tie.After-slot_width-w)
-    → c.before.before.args.i * c.slot_width-w.result + c.slot_width-w.result ≤ length c.before.before.args.floats.now
+    → c.args.i * c.slot_width-w.result + c.slot_width-w.result ≤ length c.args.floats.now
 fits c =
     let start = c.before.before in
     slot_fits start.args.s start.args.floats.now start.args.i c.slot_width-w.result start.requires.0 c.slot_width-w.ensures
@@ -22,19 +22,19 @@ store-requires : tie.Need-store-requires
 store-requires c κs =
     let start = c.before.before.before in (
       start.requires.0.sized,
-      slot_long start.args.s start.args.floats.now start.args.i c.before.slot_width-w.result start.requires.0
-          c.before.slot_width-w.ensures,
+      slot_long start.args.s start.args.floats.now start.args.i c.slot_width-w.result start.requires.0
+          c.slot_width-w.ensures,
     )
 
 returns : tie.Need-returns
 unfolding put_stretch
 returns c =
-    let slot-width = c.before.before.before.before.slot_width-w in
+    let slot-width = c.slot_width-w in
     let start = c.before.before.before.before.before.before in
     let s = start.args.s in
     slot_put s start.args.floats.now start.args.i slot-width.result start.requires.0 slot-width.ensures (λ _. start.args.c)
-    c.before.before.store.new.1.1.0 c.before.before.store.auto.1.1.0
-    (ap (summary_in s) c.before.before.store.ensures ∙ summary_back s start.requires.0.sized start.args.c start.requires.1)
+    c.store.new.p c.store.auto.p
+    (ap (summary_in s) c.store.ensures ∙ summary_back s start.requires.0.sized start.args.c start.requires.1)
 
 pub store_spec : {M : Type 1} → statement M
 store_spec =

@@ -13,7 +13,7 @@ use Rattle.arena.proofs.slots.to_row.Tie as tie
 
 -- slot i is there, by the width that the code has worked out
 fits : (c : tie.After-slot_width-w)
-    → c.before.before.before.args.i * c.slot_width-w.result + c.slot_width-w.result ≤ length c.before.before.before.args.floats.now
+    → c.args.i * c.slot_width-w.result + c.slot_width-w.result ≤ length c.args.floats.now
 fits c =
     let start = c.before.before.before in
     slot_fits start.args.s start.args.floats.now start.args.i c.slot_width-w.result start.requires.0 c.slot_width-w.ensures
@@ -21,7 +21,7 @@ fits c =
 to-row-requires : tie.Need-to_row-requires
 to-row-requires c κs =
     let start = c.before.before.before.before.before in
-    let width = c.before.before.slot_width-w in (
+    let width = c.slot_width-w in (
       start.requires.0.sized,
       slot_long start.args.s start.args.floats.now start.args.i width.result start.requires.0 width.ensures,
       rw (whole start.args.row.now) start.requires.1,
@@ -31,7 +31,7 @@ returns : tie.Need-returns
 unfolding summary_at
 returns c =
     let start = c.before.before.before.before.before.before in
-    let width = c.before.before.before.slot_width-w in
+    let width = c.slot_width-w in
     let s = start.args.s in
     c.to_row.ensures
     ∙ ap₂ (λ p x. point_of start.args.k s.feature s.dim (summary_in s p) x)

@@ -21,7 +21,7 @@ returns c =
     let start = c.before.before.before.before in
     let s = start.args.s in
     c.between.ensures ∙ ap (λ p. between_of start.args.k s.feature s.dim (summary_in s p) (summary_in s start.args.o.now))
-    c.before.part.ensures
+    c.part.ensures
 
 pub to_slot_spec : {M : Type 1} → statement M
 to_slot_spec = tie.close (tie.spec (λ c κs. search rules) between-requires returns)

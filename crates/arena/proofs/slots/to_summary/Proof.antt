@@ -17,7 +17,7 @@ unfolding summary_at
 returns c =
     let start = c.before.before.before in
     let s = start.args.s in
-    c.to_summary.ensures ∙ ap (λ p. between_of start.args.k s.feature s.dim (summary_in s p) start.args.c) c.before.part.ensures
+    c.to_summary.ensures ∙ ap (λ p. between_of start.args.k s.feature s.dim (summary_in s p) start.args.c) c.part.ensures
 
 pub to_summary_spec : {M : Type 1} → statement M
 to_summary_spec = tie.close (tie.spec (λ c κs. search rules) to-summary-requires returns)

@@ -13,7 +13,7 @@ weight-requires c κs =
 
 returns : tie.Need-returns
 unfolding summary_at
-returns c = let start = c.before.before.before in c.weight.ensures ∙ ap (λ p. (summary_in start.args.s p).weight) c.before.part.ensures
+returns c = let start = c.before.before.before in c.weight.ensures ∙ ap (λ p. (summary_in start.args.s p).weight) c.part.ensures
 
 pub weight_spec : {M : Type 1} → statement M
 weight_spec = tie.close (tie.spec (λ c κs. search rules) weight-requires returns)

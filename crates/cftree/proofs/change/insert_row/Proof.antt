@@ -21,20 +21,20 @@ abbrev start : tie.In-Accepted → tie.Start
 start c = c.before.before.before.before.before.before.before.before.before.before.before.before
 
 accepts : (c : tie.In-Accepted) → answer_of (row_refusals (start c).args.h (lent (start c)) (start c).args.row.now) ≡ Accepted
-accepts c = sym c.before.before.row-answer.ensures ∙ c.in-Accepted.is
+accepts c = sym c.row-answer.ensures ∙ c.in-Accepted.is
 
 returns : tie.Need-returns-in_default
 unfolding row_inserted
 returns c =
     let start = c.before.before.before.before.before.before.before.before.before.before.before.before in
-    refused_as_lent start.args.h (lent start) (row_refusals start.args.h (lent start) start.args.row.now) c.before.before.row-answer.ensures _ c.in_default.is
+    refused_as_lent start.args.h (lent start) (row_refusals start.args.h (lent start) start.args.row.now) c.row-answer.ensures _ c.in_default.is
 
 change-requires : tie.Need-change-head-requires
 change-requires c κs =
     let start = start (c.before.before.before.before) in
     let h = start.args.h in
     let a = row_taken h (lent start) start.args.row.now (accepts (c.before.before.before.before)) in
-    ((a.ready, (let wide = a.shape in omega arith)), insertable h (lent start) a.ready _ c.before.before.before.before.before.before.before.before.before.before.before.before.before.before.before.slice_known-1.given 1 a.room)
+    ((a.ready, (let wide = a.shape in omega arith)), insertable h (lent start) a.ready _ c.slice_known-1.given 1 a.room)
 
 returns-2 : tie.Need-returns
 unfolding row_inserted
@@ -43,8 +43,8 @@ returns-2 c =
     let h = start.args.h in
     let x = start.args.row.now in
     let a = row_taken h (lent start) x (accepts (c.before.before.before.before.before.before.before.before.before.before.before.before.before)) in
-    done_as_ruled h (lent start) (row_refusals h (lent start) x) c.before.before.before.before.before.before.before.before.before.before.before.before.before.before.before.row-answer.ensures _ c.before.before.before.before.before.before.before.before.before.before.before.before.before.in-Accepted.is
-    (c.before.before.before.before.before.before.before.before.change-head.ensures ∙ ap (changed h (lent start)) (one_row (settings_of h) x (lent_tree h start.args.floats.now start.args.links.now) a.shape))
+    done_as_ruled h (lent start) (row_refusals h (lent start) x) c.row-answer.ensures _ c.in-Accepted.is
+    (c.change-head.ensures ∙ ap (changed h (lent start)) (one_row (settings_of h) x (lent_tree h start.args.floats.now start.args.links.now) a.shape))
 
 pub insert_row_spec : {M : Type 1} → statement M
 insert_row_spec = tie.close (tie.spec (λ c κs. search rules) (λ c. search rules) (λ c. search rules) (λ c. search rules) (λ c. search rules) (λ c. search rules) (λ c. search rules) returns change-requires (λ c. search rules) (λ c. search rules) (λ c. search rules) (λ c. search rules) returns-2)

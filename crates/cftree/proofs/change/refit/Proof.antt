@@ -21,13 +21,13 @@ abbrev start : tie.In-Accepted → tie.Start
 start c = c.before.before.before.before.before.before.before.before.before.before.before.before
 
 accepts : (c : tie.In-Accepted) → answer_of (refit_refusals (start c).args.h (lent (start c)) (start c).args.rows.now) ≡ Accepted
-accepts c = sym c.before.before.refit-answer.ensures ∙ c.in-Accepted.is
+accepts c = sym c.refit-answer.ensures ∙ c.in-Accepted.is
 
 returns : tie.Need-returns-in_default
 unfolding batch_refitted
 returns c =
     let start = c.before.before.before.before.before.before.before.before.before.before.before.before in
-    refused_as_lent start.args.h (lent start) (refit_refusals start.args.h (lent start) start.args.rows.now) c.before.before.refit-answer.ensures _ c.in_default.is
+    refused_as_lent start.args.h (lent start) (refit_refusals start.args.h (lent start) start.args.rows.now) c.refit-answer.ensures _ c.in_default.is
 
 div-change : tie.Need-nonzero_div-rows
 unfolding settings_of
@@ -39,14 +39,14 @@ change-requires c κs =
     let start = start (c.before.before.before.before.before) in
     let h = start.args.h in
     let a = refit_taken h (lent start) start.args.rows.now (accepts (c.before.before.before.before.before)) in
-    ((a.ready, rows_in _ _), refittable h (lent start) a.ready _ c.before.before.before.before.before.before.before.before.before.before.before.before.before.before.before.before.slice_known-1.given _ a.room)
+    ((a.ready, rows_in _ _), refittable h (lent start) a.ready _ c.slice_known-1.given _ a.room)
 
 returns-2 : tie.Need-returns
 unfolding batch_refitted settings_of worked
 returns-2 c =
     let start = start (c.before.before.before.before.before.before.before.before.before.before.before.before.before.before) in
     let h = start.args.h in
-    done_as_ruled h (lent start) (refit_refusals h (lent start) start.args.rows.now) c.before.before.before.before.before.before.before.before.before.before.before.before.before.before.before.before.refit-answer.ensures _ c.before.before.before.before.before.before.before.before.before.before.before.before.before.before.in-Accepted.is c.before.before.before.before.before.before.before.before.change-head.ensures
+    done_as_ruled h (lent start) (refit_refusals h (lent start) start.args.rows.now) c.refit-answer.ensures _ c.in-Accepted.is c.change-head.ensures
 
 pub refit_spec : {M : Type 1} → statement M
 refit_spec = tie.close (tie.spec (λ c κs. search rules) (λ c. search rules) (λ c. search rules) (λ c. search rules) (λ c. search rules) (λ c. search rules) (λ c. search rules) returns div-change change-requires (λ c. search rules) (λ c. search rules) (λ c. search rules) (λ c. search rules) returns-2)

@@ -9,14 +9,14 @@ use Rattle.cftree.proofs.look.entries.Tie as tie
 
 returns : tie.Need-returns-in_default
 unfolding entries_shown
-returns c = unlisted _ _ c.before.before.look-answer.ensures c.in_default.is
+returns c = unlisted _ _ c.look-answer.ensures c.in_default.is
 
 places-requires : tie.Need-places-places-requires
-places-requires c κs = (look_seen _ _ _ (sym c.before.before.look-answer.ensures ∙ c.in-Accepted.is)).sized
+places-requires c κs = (look_seen _ _ _ (sym c.look-answer.ensures ∙ c.in-Accepted.is)).sized
 
 returns-2 : tie.Need-returns
 unfolding entries_shown
-returns-2 c = all_listed _ _ c.before.before.before.look-answer.ensures c.before.in-Accepted.is c.places-places.ensures
+returns-2 c = all_listed _ _ c.look-answer.ensures c.in-Accepted.is c.places-places.ensures
 
 pub entries_spec : {M : Type 1} → statement M
 entries_spec = tie.close (tie.spec (λ c κs. search rules) (λ c. search rules) (λ c. search rules) returns places-requires returns-2)

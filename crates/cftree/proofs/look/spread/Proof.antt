@@ -10,21 +10,21 @@ use Rattle.cftree.proofs.look.spread.Tie as tie
 returns : tie.Need-returns-in_default
 unfolding spread_written
 returns c =
-    let a = c.before.before.before.before.before.before.before.args in
-    unwritten (spread_refusals a.h a.floats.now a.links.now a.out.now) c.before.before.spread-answer.ensures _ _ c.in_default.is
+    let a = c.args in
+    unwritten (spread_refusals a.h a.floats.now a.links.now a.out.now) c.spread-answer.ensures _ _ c.in_default.is
 
 write-spread-requires : tie.Need-write_spread-requires
 write-spread-requires c κs =
-    let a = c.before.before.before.before.before.before.before.before.before.args in
-    let g = spread_seen a.h a.floats.now a.links.now a.out.now (sym c.before.before.before.before.spread-answer.ensures ∙ c.before.before.in-Accepted.is) in
-    rw c.before.settings.ensures (g.0.floats_in_lem, g.1)
+    let a = c.args in
+    let g = spread_seen a.h a.floats.now a.links.now a.out.now (sym c.spread-answer.ensures ∙ c.in-Accepted.is) in
+    rw c.settings.ensures (g.0.floats_in_lem, g.1)
 
 returns-2 : tie.Need-returns
 unfolding spread_written lent_tree
 returns-2 c =
-    let a = c.before.before.before.before.before.before.before.before.before.before.before.before.args in
-    front_written (spread_refusals a.h a.floats.now a.links.now a.out.now) c.before.before.before.before.before.before.before.spread-answer.ensures _ _ c.before.before.before.before.before.in-Accepted.is
-    (rw c.before.before.before.before.settings.ensures at (c.before.before.write_spread.ensures a.links.now))
+    let a = c.args in
+    front_written (spread_refusals a.h a.floats.now a.links.now a.out.now) c.spread-answer.ensures _ _ c.in-Accepted.is
+    (rw c.settings.ensures at (c.write_spread.ensures a.links.now))
 
 pub spread_spec : {M : Type 1} → statement M
 spread_spec = tie.close (tie.spec (λ c κs. search rules) (λ c. search rules) (λ c. search rules) (λ c. search rules) returns (λ c κs. search rules) write-spread-requires (λ c. search rules) returns-2)

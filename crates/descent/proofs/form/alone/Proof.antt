@@ -9,7 +9,7 @@ push-requires : tie.Need-push-requires
 push-requires c κs =
     let start = c.before.before.before.before in
     let sized = start.requires.0 in
-    ((sized.dim_some, sized.dim_few), row_fits _ _ _ c.before.in-Row.is start.requires.1)
+    ((sized.dim_some, sized.dim_few), row_fits _ _ _ c.in-Row.is start.requires.1)
 
 load-requires : tie.Need-load-requires
 load-requires c κs =
@@ -18,11 +18,11 @@ load-requires c κs =
 
 returns : tie.Need-returns-in-Row
 unfolding item_of
-returns c = c.push.ensures ∙ rw (c.before.empty.ensures, c.before.before.in-Row.is)
+returns c = c.push.ensures ∙ rw (c.empty.ensures, c.in-Row.is)
 
 returns-2 : tie.Need-returns-in-Slot
 unfolding item_of
-returns-2 c = c.load.ensures ∙ rw c.before.in-Slot.is
+returns-2 c = c.load.ensures ∙ rw c.in-Slot.is
 
 pub alone_spec : {M : Type 1} → statement M
 alone_spec =

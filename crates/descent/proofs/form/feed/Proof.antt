@@ -9,12 +9,12 @@ use Rattle.descent.proofs.form.feed.Tie as tie
 push-requires : tie.Need-push-requires
 push-requires c κs =
     let start = c.before.before.before.before.before in
-    (start.requires.0, start.requires.1, row_fits _ _ _ c.before.in-Row.is start.requires.2)
+    (start.requires.0, start.requires.1, row_fits _ _ _ c.in-Row.is start.requires.2)
 
 load-requires : tie.Need-load-requires
 load-requires c κs =
     let start = c.before.before.before.before.before in
-    (start.requires.0.sized, slot_fits _ _ _ c.before.in-Slot.is start.requires.2)
+    (start.requires.0.sized, slot_fits _ _ _ c.in-Slot.is start.requires.2)
 
 merge-requires : tie.Need-merge-requires
 merge-requires c κs =
@@ -23,13 +23,13 @@ merge-requires c κs =
 
 returns : tie.Need-returns-in-Row
 unfolding item_of
-returns c = λ ls. c.before.before.push.ensures ls ∙ rw c.before.before.before.before.in-Row.is
+returns c = λ ls. c.push.ensures ls ∙ rw c.in-Row.is
 
 returns-2 : tie.Need-returns-in-Slot
 unfolding item_of
 returns-2 c =
-    λ ls. c.before.before.merge.ensures ls
-    ∙ rw (c.before.before.before.load.ensures, c.before.before.before.before.before.in-Slot.is)
+    λ ls. c.merge.ensures ls
+    ∙ rw (c.load.ensures, c.in-Slot.is)
 
 pub feed_spec : {M : Type 1} → statement M
 feed_spec =

@@ -17,11 +17,11 @@ to-slot-requires c κs =
 
 returns : tie.Need-returns-in-Row
 unfolding item_of
-returns c = λ ls. c.to_row.ensures ls ∙ rw c.before.in-Row.is
+returns c = λ ls. c.to_row.ensures ls ∙ rw c.in-Row.is
 
 returns-2 : tie.Need-returns-in-Slot
 unfolding item_of
-returns-2 c = λ ls. c.to_slot.ensures ls ∙ rw c.before.in-Slot.is
+returns-2 c = λ ls. c.to_slot.ensures ls ∙ rw c.in-Slot.is
 
 pub to_node_spec : {M : Type 1} → statement M
 to_node_spec = tie.close (tie.spec (λ c. search rules) to-row-requires (λ c. search rules) to-slot-requires returns returns-2)

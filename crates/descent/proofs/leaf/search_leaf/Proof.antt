@@ -32,14 +32,14 @@ unfolding div of_bits
 loop-holds c = (inside_nothing _, λ ls. search_start _ _)
 
 to-row-requires : tie.Need-to_row-d-requires invariant-loop decreases-loop
-to-row-requires c κs = let start = turn c in (start.requires.0, entry_listed _ _ start.requires.2 _ c.before.loop-k-test.true, start.requires.1)
+to-row-requires c κs = let start = turn c in (start.requires.0, entry_listed _ _ start.requires.2 _ c.loop-k-test.true, start.requires.1)
 
 loop-again : tie.Need-loop-k-preserved invariant-loop decreases-loop
 loop-again c =
     let start = turn c.before.before in
-    let loop = c.before.before.before.before.loop-k in
-    let more = c.before.before.before.loop-k-test.true in
-    let far = c.before.to_row-d.ensures in
+    let loop = c.loop-k in
+    let more = c.loop-k-test.true in
+    let far = c.to_row-d.ensures in
     elim c.if-d-least.branch [
       | then-d-least w ↦ (
         rw w.1 (inside_entry _ _ (entry_listed _ _ start.requires.2 _ more)),
@@ -53,11 +53,11 @@ loop-again c =
 
 returns : tie.Need-returns invariant-loop decreases-loop
 returns c =
-    let loop = c.before.loop-k in
+    let loop = c.loop-k in
     (λ ls. sym (search_end _ _ loop.k loop.near loop.least (omega arith)) ∙ loop.invariant.1 ls, loop.invariant.0)
 
 pub search_leaf_spec : {M : Type 1} → statement M
 search_leaf_spec =
     tie.close (tie.spec invariant-loop decreases-loop loop-holds (λ c. search rules) (λ c. search rules)
-    (λ c. omega (arith, c.shared_slice_known-in-loop-k-1.given c.before.before.loop-k.k)) to-row-requires (λ c. search rules) (λ c. search rules) loop-again
+    (λ c. omega (arith, c.shared_slice_known-in-loop-k-1.given c.loop-k.k)) to-row-requires (λ c. search rules) (λ c. search rules) loop-again
     returns)

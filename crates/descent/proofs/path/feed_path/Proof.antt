@@ -31,24 +31,24 @@ abbrev turn : tie.After-parent invariant-loop decreases-loop → tie.At-loop-lef
 turn c = c.before.before.before.before.before.before
 
 loop-holds : tie.Need-loop-left-init invariant-loop decreases-loop
-loop-holds c = (c.before.before.before.requires.sure.1, refl, up_start _ _ _ _ (count_nodes_lem _ _ _ _))
+loop-holds c = (c.requires.1.1, refl, up_start _ _ _ _ (count_nodes_lem _ _ _ _))
 
 feed-requires : tie.Need-feed-requires invariant-loop decreases-loop
 feed-requires c κs =
     let at = c.before.before in
-    (rw at.loop-left.invariant.1 (start at).requires.floats.0, at.loop-left.invariant.0, (start at).requires.floats.2)
+    (rw at.loop-left.invariant.1 (start at).requires.0.0, at.loop-left.invariant.0, (start at).requires.0.2)
 
 parent-requires : tie.Need-parent-requires invariant-loop decreases-loop
-parent-requires c κs = let at = c.before.before.before.before.before in ((start at).requires.floats.1, at.loop-left.invariant.0)
+parent-requires c κs = let at = c.before.before.before.before.before in ((start at).requires.0.1, at.loop-left.invariant.0)
 
 same_length : tie.Need-shape_of-floats-in_default invariant-loop decreases-loop
-same_length c = c.before.before.before.before.before.feed.auto.1.1.0 ∙ (turn c.before.before).loop-left.inv.1
+same_length c = c.feed.auto.floats ∙ (turn c.before.before).loop-left.inv.1
 
 returns : tie.Need-returns-in_default invariant-loop decreases-loop
 returns c =
     let loop = (turn c.before.before).loop-left in
-    let top = sym (no_parent_lem _ c.in_default.is) ∙ c.before.before.parent.ensures loop.floats in
-    let fed = c.before.before.before.before.before.feed.ensures _ in
+    let top = sym (no_parent_lem _ c.in_default.is) ∙ c.parent.ensures loop.floats in
+    let fed = c.feed.ensures _ in
     sym (up_top _ (loop.left - 1) _) ∙ up_on _ loop.left loop.i _ _ none (omega arith) fed top ∙ loop.inv.2
 
 loop-again : tie.Need-loop-left-preserved invariant-loop decreases-loop
@@ -56,9 +56,9 @@ loop-again c =
     let parent = c.before.before.before in
     let loop = (turn parent).loop-left in
     let old = start (turn parent) in
-    let feed = parent.before.before.before.feed in
-    let up = sym (a_parent _ _ c.before.in-Node.is) in (
-      parent_there _ _ _ _ old.requires.sure.0 loop.i loop.inv.0 _
+    let feed = parent.feed in
+    let up = sym (a_parent _ _ c.in-Node.is) in (
+      parent_there _ _ _ _ old.requires.1.0 loop.i loop.inv.0 _
           (sym (parent.parent.ensures old.args.floats.now) ∙ sym up),
       feed.auto.1.1.0 ∙ loop.inv.1,
       up_on _ loop.left loop.i _ _ _ (omega arith) (feed.ensures _) (up ∙ parent.parent.ensures loop.floats) ∙ loop.inv.2,
@@ -66,9 +66,9 @@ loop-again c =
 
 returns-2 : tie.Need-returns invariant-loop decreases-loop
 returns-2 c =
-    let loop = c.before.loop-left in sym (up_end _ loop.left (some loop.i) _ (omega arith)) ∙ loop.invariant.2
+    let loop = c.loop-left in sym (up_end _ loop.left (some loop.i) _ (omega arith)) ∙ loop.invariant.2
 
 pub feed_path_spec : {M : Type 1} → statement M
 feed_path_spec =
     tie.close (tie.spec invariant-loop decreases-loop loop-holds feed-requires parent-requires (λ c. search rules) (λ c. search rules) same_length returns
-    (λ c. search rules) (λ c. search rules) loop-again (λ c. c.before.loop-left.invariant.1) returns-2)
+    (λ c. search rules) (λ c. search rules) loop-again (λ c. c.loop-left.invariant.1) returns-2)

@@ -8,7 +8,7 @@ use Rattle.export.proofs.change.cftree_create.Tie as tie
 returns : tie.Need-returns
 returns c =
     let call = c.before.before.before.before.before in
-    rw (sym call.before.before.before.head_of-h.ensures) (made-numbers c.outcome_numbers.ensures call.create-outcome.ensures)
+    rw (sym call.head_of-h.ensures) (made-numbers c.outcome_numbers.ensures call.create-outcome.ensures)
 
 pub cftree_create_spec : {M : Type 1} → statement M
 cftree_create_spec = tie.close (tie.spec (λ c κs. search rules) (λ c κs. search rules) (λ c κs. search rules) (λ c. search rules) (λ c. search rules) returns)

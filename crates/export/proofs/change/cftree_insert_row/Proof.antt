@@ -8,7 +8,7 @@ use Rattle.export.proofs.change.cftree_insert_row.Tie as tie
 returns : tie.Need-returns
 returns c =
     let call = c.before.before.before.before.before.before.before.before.before in
-    rw (sym call.before.before.before.before.before.head_of-h.ensures) (left-numbers c.outcome_numbers.ensures call.insert_row-outcome.ensures)
+    rw (sym call.head_of-h.ensures) (left-numbers c.outcome_numbers.ensures call.insert_row-outcome.ensures)
 
 pub cftree_insert_row_spec : {M : Type 1} → statement M
 cftree_insert_row_spec =

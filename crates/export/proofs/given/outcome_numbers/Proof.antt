@@ -6,7 +6,7 @@ use Rattle.export.proofs.given.outcome_numbers.Tie as tie
 
 returns : tie.Need-returns
 unfolding outcome_numbers
-returns c = rw (c.before.head_numbers-head.ensures, c.answer_numbers-answer.ensures)
+returns c = rw (c.head_numbers-head.ensures, c.answer_numbers-answer.ensures)
 
 pub outcome_numbers_spec : {M : Type 1} → statement M
 outcome_numbers_spec = tie.close (tie.spec (λ c κs. search rules) (λ c κs. search rules) returns)

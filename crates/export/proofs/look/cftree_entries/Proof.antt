@@ -6,7 +6,7 @@ use Rattle.export.proofs.look.cftree_entries.Statement.{statement}
 use Rattle.export.proofs.look.cftree_entries.Tie as tie
 
 returns : tie.Need-returns
-returns c = rw (sym c.before.before.head_of-h.ensures) (c.listing_numbers.ensures ∙ ap listed_numbers c.before.entries-listing.ensures)
+returns c = rw (sym c.head_of-h.ensures) (c.listing_numbers.ensures ∙ ap listed_numbers c.entries-listing.ensures)
 
 pub cftree_entries_spec : {M : Type 1} → statement M
 cftree_entries_spec = tie.close (tie.spec (λ c κs. search rules) (λ c κs. search rules) (λ c κs. search rules) returns)

@@ -8,7 +8,7 @@ use Rattle.export.proofs.look.cftree_spread.Tie as tie
 returns : tie.Need-returns
 returns c =
     let call = c.before.before.before in
-    rw (sym call.before.before.head_of-h.ensures) (written-numbers c.answer_numbers.ensures call.spread-answer.ensures)
+    rw (sym call.head_of-h.ensures) (written-numbers c.answer_numbers.ensures call.spread-answer.ensures)
 
 pub cftree_spread_spec : {M : Type 1} → statement M
 cftree_spread_spec = tie.close (tie.spec (λ c κs. search rules) (λ c κs. search rules) (λ c κs. search rules) (λ c. search rules) returns)

@@ -6,7 +6,7 @@ use Rattle.export.proofs.look.cftree_validate.Statement.{statement}
 use Rattle.export.proofs.look.cftree_validate.Tie as tie
 
 returns : tie.Need-returns
-returns c = rw (sym c.before.before.head_of-h.ensures) (c.answer_numbers.ensures ∙ ap answer_numbers c.before.validate-answer.ensures)
+returns c = rw (sym c.head_of-h.ensures) (c.answer_numbers.ensures ∙ ap answer_numbers c.validate-answer.ensures)
 
 pub cftree_validate_spec : {M : Type 1} → statement M
 cftree_validate_spec = tie.close (tie.spec (λ c κs. search rules) (λ c κs. search rules) (λ c κs. search rules) returns)

@@ -9,10 +9,10 @@ use Rattle.export.proofs.sizes.cftree_scratch_links_needed.Statement.{statement}
 use Rattle.export.proofs.sizes.cftree_scratch_links_needed.Tie as tie
 
 returns : tie.Need-returns-then-not-is_allowed
-returns c = none_needed _ c.before.before.head_of-h.ensures (sym c.before.is_allowed.ensures ∙ not-true _ c.if-not-is_allowed.true-raw)
+returns c = none_needed _ c.head_of-h.ensures (sym c.is_allowed.ensures ∙ not-true _ c.if-not-is_allowed.true-raw)
 
-allows : (c : tie.Else-not-is_allowed) → allowed c.before.before.head_of-h.result ≡ true
-allows c = sym c.before.is_allowed.ensures ∙ not-false _ c.if-not-is_allowed.false-raw
+allows : (c : tie.Else-not-is_allowed) → allowed c.head_of-h.result ≡ true
+allows c = sym c.is_allowed.ensures ∙ not-false _ c.if-not-is_allowed.false-raw
 
 scratch-links-needed-requires : tie.Need-scratch_links_needed-requires
 scratch-links-needed-requires c κs = rw c.settings-s.ensures (allowed-sized _ (allows c.before))
@@ -20,7 +20,7 @@ scratch-links-needed-requires c κs = rw c.settings-s.ensures (allowed-sized _ (
 returns-2 : tie.Need-returns
 returns-2 c =
     let allowed = c.before.before in
-    c.scratch_links_needed.ensures ∙ rw c.before.settings-s.ensures (some-needed _ allowed.before.before.head_of-h.ensures (allows allowed))
+    c.scratch_links_needed.ensures ∙ rw c.settings-s.ensures (some-needed _ allowed.head_of-h.ensures (allows allowed))
 
 pub cftree_scratch_links_needed_spec : {M : Type 1} → statement M
 cftree_scratch_links_needed_spec =

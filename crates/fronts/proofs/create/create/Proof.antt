@@ -18,23 +18,23 @@ use Rattle.fronts.proofs.create.create.Tie as tie
 abbrev start : tie.After-links_needed-l → tie.Start
 start c = c.before.before.before.before.before
 
-floats : (c : tie.After-links_needed-l) → c.before.floats_needed-f.result - 0 ≡ floats_needed (settings_of (start c).args.h)
-floats c = sub-zero _ ∙ rw c.before.before.settings-s.ensures at c.before.floats_needed-f.ensures
+floats : (c : tie.After-links_needed-l) → c.floats_needed-f.result - 0 ≡ floats_needed (settings_of (start c).args.h)
+floats c = sub-zero _ ∙ rw c.settings-s.ensures at c.floats_needed-f.ensures
 
-floats-end : (c : tie.After-links_needed-l) → c.before.floats_needed-f.result - 0 ≤ length (start c).args.floats.now
+floats-end : (c : tie.After-links_needed-l) → c.floats_needed-f.result - 0 ≤ length (start c).args.floats.now
 floats-end c = rw (floats c) (start c).requires.floats_room
 
 links : (c : tie.After-links_needed-l) → c.links_needed-l.result - 0 ≡ links_needed (settings_of (start c).args.h)
-links c = sub-zero _ ∙ rw c.before.before.settings-s.ensures at c.links_needed-l.ensures
+links c = sub-zero _ ∙ rw c.settings-s.ensures at c.links_needed-l.ensures
 
 links_end : (c : tie.After-links_needed-l) → c.links_needed-l.result - 0 ≤ length (start c).args.links.now
 links_end c = rw (links c) (start c).requires.links_room
 
 floats-needed-requires : tie.Need-floats_needed-f-requires
-floats-needed-requires c κs = rw c.settings-s.ensures c.before.before.before.requires.sized
+floats-needed-requires c κs = rw c.settings-s.ensures c.requires.sized
 
 links-needed-requires : tie.Need-links_needed-l-requires
-links-needed-requires c κs = rw c.before.settings-s.ensures c.before.before.before.before.requires.sized
+links-needed-requires c κs = rw c.settings-s.ensures c.requires.sized
 
 part-empty-end : tie.Need-slice_bounds-empty-end
 part-empty-end c = let e = floats-end c in omega arith
@@ -45,14 +45,14 @@ part-empty-end-2 c = let e = links_end (c.before) in omega arith
 empty-requires : tie.Need-empty-n-requires
 empty-requires c κs =
     let sizes = c.before.before in
-    rw c.before.before.before.before.settings-s.ensures (c.before.before.before.before.before.before.before.requires.sized, length-take-le _ _ (floats-end sizes) ∙ floats sizes, length-take-le _ _ (links_end sizes) ∙ links sizes)
+    rw c.settings-s.ensures (c.requires.sized, length-take-le _ _ (floats-end sizes) ∙ floats sizes, length-take-le _ _ (links_end sizes) ∙ links sizes)
 
 returns : tie.Need-returns
 returns c =
-    let a = c.before.before.before.before.before.before.before.before.before.before.before.before.before.args in
+    let a = c.args in
     let sizes = c.before.before.before.before.before.before.before.before in
-    let new = c.before.before.before.before.before.empty-n in
-    let settings = c.before.before.before.before.before.before.before.before.before.before.settings-s.ensures in
+    let new = c.empty-n in
+    let settings = c.settings-s.ensures in
     let empty : TreeLeft (settings_of a.h) (fresh a.h.counters.running.threshold) new.result new.new.1.1.0 new.new.1.1.1.0 =
     rw settings at new.ensures in
     made-whole a.h a.floats.now a.links.now empty c.with_counters.ensures

@@ -22,7 +22,7 @@ clear-requires c κs = let t = new c.before.before in (t.floats_in_lem, t.links_
 tidy-requires : tie.Need-tidy-requires
 tidy-requires c κs =
     let made = c.before.before.before.before.before.before.before.before.before in
-    let clear = c.before.before.before.before.before.before.clear-m in
+    let clear = c.clear-m in
     let s = (start made).args.s in
     let n = made.new.result in
     tree_fronts (new made) clear.auto.1.1.0 clear.auto.1.1.1.0 (floats-cleared s n _ clear.ensures.0 (new made).floats_in_lem)
@@ -32,7 +32,7 @@ returns : tie.Need-returns
 returns c =
     let clear = c.before.before.before.before.before.before.before.before.before.before.before in
     let made = clear.before.before.before in
-    let tidy = c.before.before.before.before.tidy in
+    let tidy = c.tidy in
     let a = (start made).args in
     let empty = new-cleared a.s (start made).requires.0 made.new.result a.threshold made.new.ensures a.floats.now a.links.now in
     subst (λ t. TreeLeft a.s t clear.clear-m.result tidy.new.1.1.0 tidy.new.1.1.1.0) (clear.clear-m.ensures.links_after ∙ empty) tidy.ensures

@@ -5,18 +5,18 @@ use Rattle.fronts.proofs.tidy.tidy.Statement.{statement}
 use Rattle.fronts.proofs.tidy.tidy.Tie as tie
 
 floats-requires : tie.Need-floats-requires
-floats-requires c κs = (c.before.before.before.requires.floats_in_lem, c.before.before.before.requires.floats_exact)
+floats-requires c κs = (c.requires.floats_in_lem, c.requires.floats_exact)
 
 links-requires : tie.Need-links-requires
-links-requires c κs = (c.before.before.before.before.before.before.before.requires.links_in, c.before.before.before.before.before.before.before.requires.links_exact)
+links-requires c κs = (c.requires.links_in, c.requires.links_exact)
 
 returns : tie.Need-returns
 returns c =
-    let a = c.before.before.before.before.before.before.before.before.before.before.args in
+    let a = c.args in
     record {
       counters = counters_back a.s a.n a.floats.now a.links.now;
-      floats = c.before.before.before.before.before.before.floats.ensures a.links.now;
-      links = c.before.before.links.ensures a.floats.now;
+      floats = c.floats.ensures a.links.now;
+      links = c.links.ensures a.floats.now;
     }
 
 pub tidy_spec : {M : Type 1} → statement M

@@ -7,15 +7,15 @@ use Rattle.fronts.proofs.tidy.tidy_all.Statement.{statement}
 use Rattle.fronts.proofs.tidy.tidy_all.Tie as tie
 
 tidy-requires : tie.Need-tidy-requires
-tidy-requires c κs = c.before.before.before.before.before.before.requires.tree
+tidy-requires c κs = c.requires.tree
 
 returns : tie.Need-returns
 returns c =
     let start = c.before.before.before.before.before.before.before.before.before.before.before.before.before.before.before.before.before.before.before in
     record {
-      tree = c.before.before.before.before.before.before.before.before.before.before.before.before.tidy.ensures;
-      scratch = c.before.before.before.before.before.before.zero.ensures ∙ ap (λ k. replicate k f0) start.requires.scratch_exact;
-      numbers = c.before.before.zero-2.ensures ∙ ap (λ k. replicate k 0) start.requires.numbers_exact;
+      tree = c.tidy.ensures;
+      scratch = c.zero.ensures ∙ ap (λ k. replicate k f0) start.requires.scratch_exact;
+      numbers = c.zero-2.ensures ∙ ap (λ k. replicate k 0) start.requires.numbers_exact;
     }
 
 pub tidy_all_spec : {M : Type 1} → statement M

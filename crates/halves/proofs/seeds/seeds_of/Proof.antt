@@ -29,22 +29,22 @@ loop-holds c = (omega arith, (omega arith, omega arith), λ ls. refl)
 wider-requires : tie.Need-wider-w-requires invariant-loop decreases-loop
 wider-requires c κs =
     let start = c.before.before.before.before in
-    (start.requires.0, start.requires.1, c.loop-k-test.true, c.before.loop-k.invariant.1)
+    (start.requires.0, start.requires.1, c.loop-k-test.true, c.loop-k.invariant.1)
 
 loop-again : tie.Need-loop-k-preserved invariant-loop decreases-loop
 loop-again c =
-    let loop = c.before.before.loop-k in
-    let a = c.before.before.before.before.before.args in (
+    let loop = c.loop-k in
+    let a = c.args in (
       omega arith,
       c.wider-w.ensures.within,
       λ ls. from_turn a.s (child (tree_of a.s a.n a.floats.now ls) a.leaf) a.list.now loop.k (seeds_of loop.w)
-          c.before.loop-k-test.true (c.wider-w.ensures.any_links ls) ∙ loop.invariant.2 ls,
+          c.loop-k-test.true (c.wider-w.ensures.any_links ls) ∙ loop.invariant.2 ls,
     )
 
 returns : tie.Need-returns invariant-loop decreases-loop
 returns c =
-    let loop = c.before.loop-k in
-    let a = c.before.before.before.before.args in (
+    let loop = c.loop-k in
+    let a = c.args in (
       λ ls. sym (from_end a.s (child (tree_of a.s a.n a.floats.now ls) a.leaf) a.list.now loop.k (seeds_of loop.w) (omega arith))
           ∙ loop.invariant.2 ls,
       loop.invariant.1,

@@ -25,27 +25,27 @@ abbrev decreases-loop : tie.decreases-loop-j
 decreases-loop s n floats leaf list k dist c a₀ b₀ most₀ j₀ a b most j = length list - j
 
 cast-c : tie.Need-overflow_cast-c invariant-loop decreases-loop
-cast-c c = omega (arith, c.shared_slice_known-3-1.given c.before.before.before.args.k)
+cast-c c = omega (arith, c.shared_slice_known-3-1.given c.args.k)
 
 loop-holds : tie.Need-loop-j-init invariant-loop decreases-loop
 loop-holds c = let start = c.before.before.before in (omega (arith, start.requires.2), start.requires.3.0, start.requires.3.1, λ ls. refl)
 
 cast-between : tie.Need-overflow_cast-list invariant-loop decreases-loop
-cast-between c = omega (arith, c.shared_slice_known-in-loop-j-1.given c.before.before.loop-j.j)
+cast-between c = omega (arith, c.shared_slice_known-in-loop-j-1.given c.loop-j.j)
 
 between-requires : tie.Need-between-d-requires invariant-loop decreases-loop
 unfolding ChildrenIn
 between-requires c κs =
     let start = c.before.before.before.before.before.before in
-    (start.requires.0, start.requires.1 start.args.k start.requires.2, start.requires.1 c.before.before.loop-j.j c.before.loop-j-test.true)
+    (start.requires.0, start.requires.1 start.args.k start.requires.2, start.requires.1 c.loop-j.j c.loop-j-test.true)
 
 loop-again : tie.Need-loop-j-preserved invariant-loop decreases-loop
 loop-again c =
     let start = c.before.before.before.before.before.before.before.before in
     let a = start.args in
-    let loop = c.before.before.before.before.loop-j in
-    let taken = c.before.before.before.loop-j-test.true in
-    let d = c.before.between-d in
+    let loop = c.loop-j in
+    let taken = c.loop-j-test.true in
+    let d = c.between-d in
     let u = seeds loop.a loop.b loop.most in
     ⊎_elim
     (λ w. (
@@ -69,8 +69,8 @@ loop-again c =
 returns : tie.Need-returns invariant-loop decreases-loop
 unfolding seeds_of
 returns c =
-    let a = c.before.before.before.before.before.args in
-    let loop = c.before.loop-j in (
+    let a = c.args in
+    let loop = c.loop-j in (
       λ ls. sym (with_end a.s (child (tree_of a.s a.n a.floats.now ls) a.leaf) a.list.now a.k _ loop.j
           (seeds loop.a loop.b loop.most) (omega arith)) ∙ loop.invariant.3 ls,
       (loop.invariant.1, loop.invariant.2),

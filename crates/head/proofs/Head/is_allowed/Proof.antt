@@ -7,26 +7,26 @@ use Rattle.head.proofs.Head.is_allowed.Tie as tie
 
 returns : tie.Need-returns-then-not-are_sizes_within
 unfolding allowed
-returns c = rw (← c.before.are_sizes_within.ensures, not-true c.before.are_sizes_within.result c.if-not-are_sizes_within.true-raw)
+returns c = rw (← c.are_sizes_within.ensures, not-true c.are_sizes_within.result c.if-not-are_sizes_within.true-raw)
 
 returns-2 : tie.Need-returns-then-not-are_choices_within
 unfolding allowed
 returns-2 c =
     rw (
-      ← c.before.before.before.are_sizes_within.ensures,
-      not-false c.before.before.before.are_sizes_within.result c.before.before.if-not-are_sizes_within.false-raw,
-      ← c.before.are_choices_within.ensures,
-      not-true c.before.are_choices_within.result c.if-not-are_choices_within.true-raw,
+      ← c.are_sizes_within.ensures,
+      not-false c.are_sizes_within.result c.if-not-are_sizes_within.false-raw,
+      ← c.are_choices_within.ensures,
+      not-true c.are_choices_within.result c.if-not-are_choices_within.true-raw,
     )
 
 returns-3 : tie.Need-returns
 unfolding allowed
 returns-3 c =
     rw (
-      ← c.before.before.before.before.are_sizes_within.ensures,
-      not-false c.before.before.before.before.are_sizes_within.result c.before.before.before.if-not-are_sizes_within.false-raw,
-      ← c.before.before.are_choices_within.ensures,
-      not-false c.before.before.are_choices_within.result c.before.if-not-are_choices_within.false-raw,
+      ← c.are_sizes_within.ensures,
+      not-false c.are_sizes_within.result c.if-not-are_sizes_within.false-raw,
+      ← c.are_choices_within.ensures,
+      not-false c.are_choices_within.result c.if-not-are_choices_within.false-raw,
       ← c.is_threshold_within.ensures,
     )
 

@@ -7,7 +7,7 @@ use Rattle.head.proofs.Settings.node_cap.Statement.{statement}
 use Rattle.head.proofs.Settings.node_cap.Tie as tie
 
 mul-result : tie.Need-overflow_mul-result
-mul-result c = record { fits = omega (arith, product_small c.before.before.args.self c.before.before.requires) }
+mul-result c = record { fits = omega (arith, product_small c.args.self c.requires) }
 
 returns : tie.Need-returns
 unfolding node_cap

@@ -7,12 +7,12 @@ use Rattle.head.proofs.Settings.scratch_floats_needed.Tie as tie
 
 mul-result : tie.Need-overflow_mul-result
 mul-result c =
-    let small = scratch_small c.before.before.args.self c.before.before.requires in
-    record { fits = rw (c.slot_width.ensures, c.before.entry_cap.ensures) (omega arith) }
+    let small = scratch_small c.args.self c.requires in
+    record { fits = rw (c.slot_width.ensures, c.entry_cap.ensures) (omega arith) }
 
 returns : tie.Need-returns
 unfolding scratch_floats_needed
-returns c = rw (c.slot_width.ensures, c.before.entry_cap.ensures)
+returns c = rw (c.slot_width.ensures, c.entry_cap.ensures)
 
 pub scratch_floats_needed_spec : {M : Type 1} → statement M
 scratch_floats_needed_spec = tie.close (tie.spec (λ c κs. search rules) (λ c κs. search rules) mul-result returns)

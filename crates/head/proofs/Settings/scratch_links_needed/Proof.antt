@@ -6,7 +6,7 @@ use Rattle.head.proofs.Settings.scratch_links_needed.Statement.{statement}
 use Rattle.head.proofs.Settings.scratch_links_needed.Tie as tie
 
 mul-result : tie.Need-overflow_mul-result
-mul-result c = record { fits = omega (arith, c.entry_cap.ensures, entries_small c.before.args.self c.before.requires) }
+mul-result c = record { fits = omega (arith, c.entry_cap.ensures, entries_small c.args.self c.requires) }
 
 returns : tie.Need-returns
 unfolding scratch_links_needed

@@ -7,40 +7,40 @@ use Rattle.head.proofs.limits.are_sizes_within.Tie as tie
 
 returns : tie.Need-returns-then-not-is_within
 unfolding sizes_within
-returns c = rw (← c.before.is_within.ensures, not-true c.before.is_within.result c.if-not-is_within.true-raw)
+returns c = rw (← c.is_within.ensures, not-true c.is_within.result c.if-not-is_within.true-raw)
 
 returns-2 : tie.Need-returns-then-not-is_within-2
 unfolding sizes_within
 returns-2 c =
     rw (
-      ← c.before.before.before.is_within.ensures,
-      not-false c.before.before.before.is_within.result c.before.before.if-not-is_within.false-raw,
-      ← c.before.is_within-2.ensures,
-      not-true c.before.is_within-2.result c.if-not-is_within-2.true-raw,
+      ← c.is_within.ensures,
+      not-false c.is_within.result c.if-not-is_within.false-raw,
+      ← c.is_within-2.ensures,
+      not-true c.is_within-2.result c.if-not-is_within-2.true-raw,
     )
 
 returns-3 : tie.Need-returns-then-not-is_within-3
 unfolding sizes_within
 returns-3 c =
     rw (
-      ← c.before.before.before.before.before.is_within.ensures,
-      not-false c.before.before.before.before.before.is_within.result c.before.before.before.before.if-not-is_within.false-raw,
-      ← c.before.before.before.is_within-2.ensures,
-      not-false c.before.before.before.is_within-2.result c.before.before.if-not-is_within-2.false-raw,
-      ← c.before.is_within-3.ensures,
-      not-true c.before.is_within-3.result c.if-not-is_within-3.true-raw,
+      ← c.is_within.ensures,
+      not-false c.is_within.result c.if-not-is_within.false-raw,
+      ← c.is_within-2.ensures,
+      not-false c.is_within-2.result c.if-not-is_within-2.false-raw,
+      ← c.is_within-3.ensures,
+      not-true c.is_within-3.result c.if-not-is_within-3.true-raw,
     )
 
 returns-4 : tie.Need-returns
 unfolding sizes_within
 returns-4 c =
     rw (
-      ← c.before.before.before.before.before.before.is_within.ensures,
-      not-false c.before.before.before.before.before.before.is_within.result c.before.before.before.before.before.if-not-is_within.false-raw,
-      ← c.before.before.before.before.is_within-2.ensures,
-      not-false c.before.before.before.before.is_within-2.result c.before.before.before.if-not-is_within-2.false-raw,
-      ← c.before.before.is_within-3.ensures,
-      not-false c.before.before.is_within-3.result c.before.if-not-is_within-3.false-raw,
+      ← c.is_within.ensures,
+      not-false c.is_within.result c.if-not-is_within.false-raw,
+      ← c.is_within-2.ensures,
+      not-false c.is_within-2.result c.if-not-is_within-2.false-raw,
+      ← c.is_within-3.ensures,
+      not-false c.is_within-3.result c.if-not-is_within-3.false-raw,
       ← c.is_within-4.ensures,
     )
 

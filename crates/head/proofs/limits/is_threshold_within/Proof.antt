@@ -6,11 +6,11 @@ use Rattle.head.proofs.limits.is_threshold_within.Tie as tie
 
 returns : tie.Need-returns-then-is_finite
 unfolding threshold_within
-returns c = rw (← c.before.is_finite.ensures, c.if-is_finite.true)
+returns c = rw (← c.is_finite.ensures, c.if-is_finite.true)
 
 returns-2 : tie.Need-returns-else-is_finite
 unfolding threshold_within
-returns-2 c = rw (← c.before.is_finite.ensures, c.if-is_finite.false)
+returns-2 c = rw (← c.is_finite.ensures, c.if-is_finite.false)
 
 pub is_threshold_within_spec : {M : Type 1} → statement M
 is_threshold_within_spec = tie.close (tie.spec (λ c κs. search rules) returns returns-2)

@@ -8,7 +8,7 @@ returns : tie.Need-returns
 returns c =
     let last_Line = c.before.before.before.before.before.before.before.before.before.before.before.before.before.before in
     let last = last_Line.last_line-last.ensures in
-    (wrote_is last.1 c.before.before.print-long.ensures, record { stands = last.0; lists = last.1 })
+    (wrote_is last.1 c.print-long.ensures, record { stands = last.0; lists = last.1 })
 
 pub finish_spec : {M : Type 1} → statement M
 finish_spec =

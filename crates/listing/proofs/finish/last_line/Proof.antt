@@ -8,7 +8,7 @@ use Rattle.listing.proofs.finish.last_line.Tie as tie
 returns : tie.Need-returns-then-run-eq0
 returns c =
     let start = c.before.before.before.before.before.before.before in
-    let a = start.args in (start.requires.reading.stands, no_end a.run a.line.now a.floats.now a.links.now c.if-run-eq0.true)
+    let a = start.args in (start.requires.1.stands, no_end a.run a.line.now a.floats.now a.links.now c.if-run-eq0.true)
 
 returns-2 : tie.Need-returns
 returns-2 c =
@@ -17,8 +17,8 @@ returns-2 c =
     let start = else1.before.before.before.before.before.before.before in
     let a = start.args in
     let w = end_line.end_line.ensures in
-    let short = start.requires.reading.short in
-    let room = start.requires.room.line_room in
+    let short = start.requires.1.short in
+    let room = start.requires.0.line_room in
     let some = else1.if-run-eq0.false in
     (w.stands, end_read a.run a.line.now a.floats.now a.links.now _ _ _ (omega arith) (omega arith) w)
 

@@ -11,13 +11,13 @@ sub-write-report : tie.Need-overflow_sub-run
 sub-write-report c =
     let start = c.before.before.before.before.before.before in
     let a = start.args in
-    omega (arith, grown-total (rows_stand a.run a.floats.now a.links.now c.before.in-Rows.is start.requires.2))
+    omega (arith, grown-total (rows_stand a.run a.floats.now a.links.now c.in-Rows.is start.requires.2))
 
 write-report-requires : tie.Need-write_report-requires
 write-report-requires c κs =
     let start = c.before.before.before.before.before.before.before in
     let a = start.args in (
-      reportable (rows_stand a.run a.floats.now a.links.now c.before.before.in-Rows.is start.requires.2) start.requires.0,
+      reportable (rows_stand a.run a.floats.now a.links.now c.in-Rows.is start.requires.2) start.requires.0,
       start.requires.1,
     )
 
@@ -26,21 +26,21 @@ returns c =
     let enum_told = c.before.before.before.before in
     let start = enum_told.before.before.before.before.before in
     let a = start.args in wrote_is (first_end a.run a.floats.now a.links.now enum_told.in-First.is start.requires.2)
-    c.before.before.write_bad.ensures
+    c.write_bad.ensures
 
 returns-2 : tie.Need-returns-in-Rows
 returns-2 c =
     let enum-told2 = c.before.before.before.before.before in
     let start = enum-told2.before.before.before.before.before in
     let a = start.args in wrote_is (rows_end a.run a.floats.now a.links.now enum-told2.in-Rows.is)
-    c.before.before.write_report.ensures
+    c.write_report.ensures
 
 returns-3 : tie.Need-returns-in-Bad
 returns-3 c =
     let enum-told3 = c.before.before.before.before in
     let start = enum-told3.before.before.before.before.before in
     let a = start.args in wrote_is (bad_end a.run a.floats.now a.links.now enum-told3.in-Bad.is)
-    c.before.before.write_bad-in-Bad.ensures
+    c.write_bad-in-Bad.ensures
 
 pub print_spec : {M : Type 1} → statement M
 print_spec =

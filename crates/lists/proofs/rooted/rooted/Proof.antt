@@ -23,8 +23,8 @@ returns-2 : tie.Need-returns-in-Node
 unfolding rooted orphan tree_of parent_of
 returns-2 c =
     let start = c.before.before.before.before.before.before in
-    let if1 = c.before.before.before.if-n in
-    let parent = c.before.before.parent in
+    let if1 = c.if-n in
+    let parent = c.parent in
     λ fs. rw (
       count_nodes_lem start.args.s start.args.n fs start.args.links.now,
       lt-ltb start.args.n.root start.args.n.nodes
@@ -37,8 +37,8 @@ returns-3 : tie.Need-returns-in-NoParent
 unfolding rooted orphan tree_of parent_of
 returns-3 c =
     let start = c.before.before.before.before.before.before in
-    let if1 = c.before.before.before.if-n in
-    let parent = c.before.before.parent in
+    let if1 = c.if-n in
+    let parent = c.parent in
     λ fs. rw (
       count_nodes_lem start.args.s start.args.n fs start.args.links.now,
       lt-ltb start.args.n.root start.args.n.nodes

@@ -16,8 +16,8 @@ returns-2 : tie.Need-returns-then-n-node_cap
 unfolding sized
 returns-2 c =
     let start = c.before.before.before.before.before in
-    let if1 = c.before.before.before.if-n-lt1 in
-    let node-cap = c.before.before.node_cap in
+    let if1 = c.if-n-lt1 in
+    let node-cap = c.node_cap in
     λ fs ls. rw (
       count_nodes_lem start.args.s start.args.n fs ls,
       le-leb 1 start.args.n.nodes if1.false,
@@ -30,9 +30,9 @@ returns-3 : tie.Need-returns
 unfolding sized
 returns-3 c =
     let start = c.before.before.before.before.before.before.before in
-    let if1 = c.before.before.before.before.before.if-n-lt1 in
-    let node-cap = c.before.before.before.before.node_cap in
-    let if2 = c.before.before.if-n-node_cap in
+    let if1 = c.if-n-lt1 in
+    let node-cap = c.node_cap in
+    let if2 = c.if-n-node_cap in
     λ fs ls. rw (
       count_nodes_lem start.args.s start.args.n fs ls,
       le-leb 1 start.args.n.nodes if1.false,

@@ -14,19 +14,19 @@ use Rattle.merging.proofs.dropping.drop_merged.Tie as tie
 number-requires : tie.Need-number-kept-requires
 number-requires c κs =
     let start = c.before.before.before.before in
-    (start.requires.floats.2, omega (arith, start.requires.floats.0.entries_in, entries_small start.args.s start.requires.floats.0.sized))
+    (start.requires.0.2, omega (arith, start.requires.0.0.entries_in, entries_small start.args.s start.requires.0.0.sized))
 
 keep-entries-requires : tie.Need-keep_entries-requires
 keep-entries-requires c κs =
     let start = c.before.before.before.before.before.before.before.before.before in
-    let number = c.before.before.before.before.number-kept in
-    ((start.requires.floats.0, rw number.auto.0 start.requires.floats.2), numbered_own start.args.numbers.now _ _ number.ensures.1)
+    let number = c.number-kept in
+    ((start.requires.0.0, rw number.auto.0 start.requires.0.2), numbered_own start.args.numbers.now _ _ number.ensures.1)
 
 keep-lists-requires : tie.Need-keep_lists-requires
 keep-lists-requires c κs =
     let start = c.before.before.before.before.before.before.before.before.before.before.before.before.before.before in
-    let number = c.before.before.before.before.before.before.before.before.before.number-kept in (
-      (start.requires.floats.1, rw number.auto.0 start.requires.floats.2, λ gs. leaves_same _ _ _ start.args.floats.now gs _ refl refl start.requires.leaves_in),
+    let number = c.number-kept in (
+      (start.requires.0.1, rw number.auto.0 start.requires.0.2, λ gs. leaves_same _ _ _ start.args.floats.now gs _ refl refl start.requires.1),
       numbered_own start.args.numbers.now _ _ number.ensures.1,
     )
 
@@ -44,7 +44,7 @@ returns c =
     let is : c.with_entries.result ≡ count_entries (count_up bs) n = c.with_entries.ensures ∙ ap (λ k. count_entries k n) number.ensures.0 in (
       is,
       dropped-is s n _ bs _ start.args.floats.now _ start.args.links.now _ same is kept.keep_entries.ensures
-          c.before.before.before.keep_lists.ensures,
+          c.keep_lists.ensures,
     )
 
 pub drop_merged_spec : {M : Type 1} → statement M

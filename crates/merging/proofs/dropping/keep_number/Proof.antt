@@ -6,10 +6,10 @@ use Rattle.merging.proofs.dropping.keep_number.Statement.{statement}
 use Rattle.merging.proofs.dropping.keep_number.Tie as tie
 
 returns : tie.Need-returns-then-word-eq0
-returns c = (plus_none c.before.args.new.now c.before.args.len c.before.args.word c.if-word-eq0.true, omega arith)
+returns c = (plus_none c.args.new.now c.args.len c.args.word c.if-word-eq0.true, omega arith)
 
 returns-2 : tie.Need-returns
-returns-2 c = (plus_some c.before.args.new.now c.before.args.len c.before.args.word c.if-word-eq0.false c.before.requires, omega arith)
+returns-2 c = (plus_some c.args.new.now c.args.len c.args.word c.if-word-eq0.false c.requires, omega arith)
 
 pub keep_number_spec : {M : Type 1} → statement M
 keep_number_spec =

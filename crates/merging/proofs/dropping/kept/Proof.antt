@@ -22,36 +22,36 @@ loop-holds : tie.Need-loop-k-init invariant-loop decreases-loop
 loop-holds c = (omega arith, omega arith, refl, refl)
 
 cast-word : tie.Need-overflow_cast-word invariant-loop decreases-loop
-cast-word c = omega (arith, c.shared_slice_known-in-loop-k-1.given c.before.before.loop-k.k)
+cast-word c = omega (arith, c.shared_slice_known-in-loop-k-1.given c.loop-k.k)
 
 -- the word of the number at place k is there
 word_in : (c : tie.In-loop-k invariant-loop decreases-loop)
-    → 3 * get_or c.before.before.before.before.args.list.now c.before.loop-k.k 0 + 2
-    < length c.before.before.before.before.args.numbers.now
-word_in c = let start = c.before.before.before.before in start.requires.1 c.before.loop-k.k c.loop-k-test.true
+    → 3 * get_or c.args.list.now c.loop-k.k 0 + 2
+    < length c.args.numbers.now
+word_in c = let start = c.before.before.before.before in start.requires.1 c.loop-k.k c.loop-k-test.true
 
 keep-number-requires : tie.Need-keep_number-len-requires invariant-loop decreases-loop
 keep-number-requires c κs =
     let start = c.before.before.before.before.before.before.before in
-    let l = c.before.before.before.before.loop-k in
-    omega (arith, l.invariant.0, l.invariant.2, c.before.before.before.loop-k-test.true, start.requires.0)
+    let l = c.loop-k in
+    omega (arith, l.invariant.0, l.invariant.2, c.loop-k-test.true, start.requires.0)
 
 loop-again : tie.Need-loop-k-preserved invariant-loop decreases-loop
 unfolding number_in word_at
 loop-again c =
     let start = c.before.before.before.before.before.before.before.before.before in
-    let more = c.before.before.before.before.before.loop-k-test.true in
-    let l = c.before.before.before.before.before.before.loop-k in (
-      omega (arith, c.before.keep_number-len.ensures.1, l.invariant.0),
+    let more = c.loop-k-test.true in
+    let l = c.loop-k in (
+      omega (arith, c.keep_number-len.ensures.1, l.invariant.0),
       omega (arith, more),
-      c.before.keep_number-len.auto.0 ∙ l.invariant.2,
-      kept_turn _ start.args.list.now l.k _ _ more c.before.keep_number-len.ensures.0 ∙ l.invariant.3,
+      c.keep_number-len.auto.new ∙ l.invariant.2,
+      kept_turn _ start.args.list.now l.k _ _ more c.keep_number-len.ensures.0 ∙ l.invariant.3,
     )
 
 returns : tie.Need-returns invariant-loop decreases-loop
 returns c =
     let start = c.before.before.before.before in
-    let l = c.before.loop-k in (
+    let l = c.loop-k in (
       sym (kept_end _ start.args.list.now l.k _ (omega (arith, c.loop-k-test.false))) ∙ l.invariant.3,
       (omega (arith, l.invariant.0, l.invariant.1), l.invariant.2),
     )
@@ -60,4 +60,4 @@ pub kept_spec : {M : Type 1} → statement M
 kept_spec =
     tie.close (tie.spec invariant-loop decreases-loop loop-holds (λ c. search rules) (λ c. search rules) cast-word (λ c. omega (arith, word_in c.before))
     (λ c. omega (arith, word_in c.before)) (λ c. omega (arith, word_in c.before)) (λ c. word_in c.before.before)
-    (λ c. sym c.before.before.before.before.loop-k.invariant.2) keep-number-requires (λ c. search rules) (λ c. search rules) loop-again returns)
+    (λ c. sym c.loop-k.invariant.2) keep-number-requires (λ c. search rules) (λ c. search rules) loop-again returns)

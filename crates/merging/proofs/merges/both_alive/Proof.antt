@@ -17,7 +17,7 @@ unfolding alive_at word_at
 returns-2 c =
     let start = c.before.before.before in
     sym (ap (λ b. b && alive_at start.args.numbers.now start.args.two)
-    (flag_up start.args.numbers.now start.args.one c.before.if-numbers-one-eq0.false))
+    (flag_up start.args.numbers.now start.args.one c.if-numbers-one-eq0.false))
 
 pub both_alive_spec : {M : Type 1} → statement M
 both_alive_spec =

@@ -14,18 +14,18 @@ merge-requires c κs =
     let start = c.before.before.before.before in (
       start.requires.0,
       start.requires.1,
-      rw (c.before.summary-c.ensures [])
+      rw (c.summary-c.ensures [])
           (entry_shaped start.args.s start.requires.0.sized start.args.n start.args.floats.now [] start.args.two start.requires.2),
     )
 
 returns : tie.Need-returns
 unfolding TwoMerged
 returns c =
-    let summary = c.before.before.before.before.summary-c in
+    let summary = c.summary-c in
     let start = c.before.before.before.before.before.before.before in
     let s = start.args.s in
     λ ls.
-    c.before.before.merge.ensures ls
+    c.merge.ensures ls
     ∙ ap (λ b. on_entry (λ x. merge s x b) start.args.one (tree_of s start.args.n start.args.floats.now ls)) (summary.ensures ls)
 
 pub merge_into_spec : {M : Type 1} → statement M

@@ -13,14 +13,14 @@ use Rattle.merging.proofs.merges.merge_pair.Tie as tie
 -- the words of the pair's two entries are among the numbers
 first_in : (start : tie.Start) → 3 * get_or start.args.numbers.now (3 * start.args.k) 0 + 2 < length start.args.numbers.now
 unfolding PairBelow
-first_in start = omega (arith, start.requires.floats.1, start.requires.pair_below.0.0)
+first_in start = omega (arith, start.requires.0.1, start.requires.1.0.0)
 
 second-in : (start : tie.Start) → 3 * get_or start.args.numbers.now (3 * start.args.k + 1) 0 + 2 < length start.args.numbers.now
 unfolding PairBelow
-second-in start = omega (arith, start.requires.floats.1, start.requires.pair_below.0.1)
+second-in start = omega (arith, start.requires.0.1, start.requires.1.0.1)
 
 cast-one : tie.Need-overflow_cast-one
-cast-one c = omega (arith, c.slice_known-3-1.given (3 * c.before.before.before.args.k))
+cast-one c = omega (arith, c.slice_known-3-1.given (3 * c.args.k))
 
 cast-two : tie.Need-overflow_cast-two
 cast-two c =
@@ -33,13 +33,13 @@ both-alive-requires c κs = let start = c.before.before.before.before.before in 
 returns : tie.Need-returns-then-not-both_alive
 returns c =
     let start = c.before.before.before.before.before.before.before in
-    pair_skipped _ _ start.args.k start.args.m _ _ start.requires.pair_below.0 (sym c.before.both_alive.ensures ∙ not-true _ c.if-not-both_alive.true-raw)
+    pair_skipped _ _ start.args.k start.args.m _ _ start.requires.1.0 (sym c.both_alive.ensures ∙ not-true _ c.if-not-both_alive.true-raw)
 
 merge-two-requires : tie.Need-merge_two-widest-requires
 unfolding PairBelow
 merge-two-requires c κs =
     let start = c.before.before.before.before.before.before.before.before in
-    (start.requires.floats.0, start.requires.pair_below.0.0, start.requires.pair_below.0.1)
+    (start.requires.0.0, start.requires.1.0.0, start.requires.1.0.1)
 
 -- the start, from where the second entry is taken away
 abbrev written : tie.After-slice_known-5-1 → tie.Start
@@ -48,11 +48,11 @@ written c = c.before.before.before.before.before.before.before.before.before.bef
 returns-2 : tie.Need-returns
 returns-2 c =
     let start = c.before.before.before.before.before.before.before.before.before.before.before.before in
-    let both-alive = c.before.before.before.before.before.before.both_alive in
-    let test = c.before.before.before.before.before.if-not-both_alive.false-raw in
-    let merge-two = c.before.before.before.merge_two-widest in
+    let both-alive = c.both_alive in
+    let test = c.if-not-both_alive.false-raw in
+    let merge-two = c.merge_two-widest in
     pair-merged start.args.s start.args.n start.args.k start.args.m start.args.floats.now start.args.numbers.now
-    start.requires.pair_below.0 _ merge-two.result (second-in start)
+    start.requires.1.0 _ merge-two.result (second-in start)
     merge-two.ensures.0 merge-two.ensures.1 (sym both-alive.ensures ∙ not-false _ test)
 
 pub merge_pair_spec : {M : Type 1} → statement M

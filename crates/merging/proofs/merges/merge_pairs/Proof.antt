@@ -26,53 +26,53 @@ loop-holds c =
     )
 
 same_length : tie.Need-shape_of-floats-then-m-most invariant-loop decreases-loop
-same_length c = c.before.before.before.loop-k.invariant.0
+same_length c = c.loop-k.invariant.0
 
 same-length-2 : tie.Need-shape_of-numbers-then-m-most invariant-loop decreases-loop
-same-length-2 c = c.before.before.before.loop-k.invariant.1
+same-length-2 c = c.loop-k.invariant.1
 
 returns : tie.Need-returns-then-m-most invariant-loop decreases-loop
-returns c = let l = c.before.before.before.loop-k in midway_full _ _ _ _ _ _ _ _ _ _ l.invariant.2 c.if-m-most.true
+returns c = let l = c.loop-k in midway_full _ _ _ _ _ _ _ _ _ _ l.invariant.2 c.if-m-most.true
 
 merge-pair-requires : tie.Need-merge_pair-m-requires invariant-loop decreases-loop
 unfolding PairsBelow
 merge-pair-requires c κs =
     let start = c.before.before.before.before.before.before.before.before in
-    let more = c.before.before.before.before.loop-k-test.true in
-    let l = c.before.before.before.before.before.loop-k in (
-      (rw l.invariant.0 start.requires.floats.0, omega (arith, l.invariant.1, start.requires.floats.1), omega (arith, l.invariant.1, start.requires.floats.2, more)),
-      (same-below start.args.numbers.now l.numbers l.invariant.2.same start.args.n.entries l.k (start.requires.pairs_below l.k more), l.invariant.2.few),
+    let more = c.loop-k-test.true in
+    let l = c.loop-k in (
+      (rw l.invariant.0 start.requires.0.0, omega (arith, l.invariant.1, start.requires.0.1), omega (arith, l.invariant.1, start.requires.0.2, more)),
+      (same-below start.args.numbers.now l.numbers l.invariant.2.same start.args.n.entries l.k (start.requires.1 l.k more), l.invariant.2.few),
     )
 
 add-k : tie.Need-overflow_add-k invariant-loop decreases-loop
 add-k c =
     let start = c.before.before.before.before.before.before.before.before.before.before.before.before.before in
-    let l = c.before.before.before.before.before.before.before.before.before.before.loop-k in
-    let more = c.before.before.before.before.before.before.before.before.before.loop-k-test.true in
-    omega (arith, more, l.invariant.1, start.requires.floats.2)
+    let l = c.loop-k in
+    let more = c.loop-k-test.true in
+    omega (arith, more, l.invariant.1, start.requires.0.2)
 
 loop-less : tie.Need-loop-k-smaller invariant-loop decreases-loop
-loop-less c = omega (arith, c.before.before.before.before.before.before.before.before.before.loop-k-test.true)
+loop-less c = omega (arith, c.loop-k-test.true)
 
 loop-again : tie.Need-loop-k-preserved invariant-loop decreases-loop
 loop-again c =
-    let more = c.before.before.before.before.before.before.before.before.before.loop-k-test.true in
-    let test = c.before.before.before.before.before.before.before.if-m-most.false in
-    let merge-pair = c.before.before.before.before.merge_pair-m in
-    let l = c.before.before.before.before.before.before.before.before.before.before.loop-k in (
+    let more = c.loop-k-test.true in
+    let test = c.if-m-most.false in
+    let merge-pair = c.merge_pair-m in
+    let l = c.loop-k in (
       merge-pair.auto.1.1.0 ∙ l.invariant.0,
       merge-pair.auto.1.1.1.0 ∙ l.invariant.1,
       midway_turn _ _ _ _ _ _ _ _ _ _ l.invariant.2 _ _ _ more test merge-pair.ensures,
     )
 
 same-length-3 : tie.Need-shape_of-floats invariant-loop decreases-loop
-same-length-3 c = c.before.loop-k.invariant.0
+same-length-3 c = c.loop-k.invariant.0
 
 same-length-4 : tie.Need-shape_of-numbers invariant-loop decreases-loop
-same-length-4 c = c.before.loop-k.invariant.1
+same-length-4 c = c.loop-k.invariant.1
 
 returns-2 : tie.Need-returns invariant-loop decreases-loop
-returns-2 c = let l = c.before.loop-k in midway_end _ _ _ _ _ _ _ _ _ _ l.invariant.2 (omega (arith, c.loop-k-test.false))
+returns-2 c = let l = c.loop-k in midway_end _ _ _ _ _ _ _ _ _ _ l.invariant.2 (omega (arith, c.loop-k-test.false))
 
 pub merge_pairs_spec : {M : Type 1} → statement M
 merge_pairs_spec =

@@ -22,13 +22,13 @@ unfolding alive_in table
 loop-holds c = (omega arith, refl, refl, same_none c.args.numbers.now)
 
 -- the word of entry i is there
-word_in : (c : tie.In-loop-i invariant-loop decreases-loop) → 3 * c.before.loop-i.i + 2 < length c.before.loop-i.numbers
-word_in c = omega (arith, c.before.loop-i.invariant.1, c.before.before.requires, c.loop-i-test.true)
+word_in : (c : tie.In-loop-i invariant-loop decreases-loop) → 3 * c.loop-i.i + 2 < length c.loop-i.numbers
+word_in c = omega (arith, c.loop-i.invariant.1, c.requires, c.loop-i-test.true)
 
 loop-again : tie.Need-loop-i-preserved invariant-loop decreases-loop
 loop-again c =
     let start = c.before.before in
-    let l = c.before.loop-i in (
+    let l = c.loop-i in (
       omega (arith, c.loop-i-test.true),
       length-set l.numbers (3 * l.i + 2) 1 ∙ l.invariant.1,
       alive_more l.numbers l.i (word_in c) l.invariant.2,
@@ -36,12 +36,12 @@ loop-again c =
     )
 
 same_length : tie.Need-shape_of-numbers invariant-loop decreases-loop
-same_length c = c.before.loop-i.invariant.1
+same_length c = c.loop-i.invariant.1
 
 returns : tie.Need-returns invariant-loop decreases-loop
 returns c =
-    let l = c.before.loop-i in
-    let all : l.i ≡ c.before.before.args.entries = omega (arith, l.invariant.0, c.loop-i-test.false) in
+    let l = c.loop-i in
+    let all : l.i ≡ c.args.entries = omega (arith, l.invariant.0, c.loop-i-test.false) in
     (rw (sym all) l.invariant.2, l.invariant.3)
 
 pub revive_spec : {M : Type 1} → statement M

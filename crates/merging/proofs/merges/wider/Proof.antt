@@ -8,7 +8,7 @@ use Rattle.merging.proofs.merges.wider.Tie as tie
 
 returns : tie.Need-returns
 unfolding GapWidened
-returns c = λ ls. c.widen.ensures ∙ ap (widened c.before.before.before.args.widest) (c.before.between-gap.ensures ls)
+returns c = λ ls. c.widen.ensures ∙ ap (widened c.args.widest) (c.between-gap.ensures ls)
 
 pub wider_spec : {M : Type 1} → statement M
 wider_spec = tie.close (tie.spec (λ c κs. search rules) (λ c κs. search rules) returns)

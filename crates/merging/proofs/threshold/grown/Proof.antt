@@ -9,22 +9,22 @@ use Rattle.merging.proofs.threshold.grown.Statement.{statement}
 use Rattle.merging.proofs.threshold.grown.Tie as tie
 
 -- the widest gap grown, at most the largest float
-capped : (c : tie.Joined-most-wide) → c.if-most-wide.grown ≡ cond (lt largest (c.before.args.widest ⊗ growth)) largest (c.before.args.widest ⊗ growth)
+capped : (c : tie.Joined-most-wide) → c.if-most-wide.grown ≡ cond (lt largest (c.args.widest ⊗ growth)) largest (c.args.widest ⊗ growth)
 capped c =
-    let wide = c.before.args.widest ⊗ growth in
+    let wide = c.args.widest ⊗ growth in
     ⊎_elim (λ w. w.1 ∙ sym (ap (λ b. cond b largest wide) w.0.true)) (λ w. w.1 ∙ sym (ap (λ b. cond b largest wide) w.0.false)) c.if-most-wide.branch
 
 returns : tie.Need-returns-then-threshold-grown
 unfolding grown_threshold
 returns c =
-    let h = c.before.before.args.threshold in
-    sym (ap (λ b. cond b c.before.if-most-wide.grown h) c.if-threshold-grown.true) ∙ ap (λ g. cond (lt h g) g h) (capped c.before)
+    let h = c.args.threshold in
+    sym (ap (λ b. cond b c.if-most-wide.grown h) c.if-threshold-grown.true) ∙ ap (λ g. cond (lt h g) g h) (capped c.before)
 
 returns-2 : tie.Need-returns-else-threshold-grown
 unfolding grown_threshold
 returns-2 c =
-    let h = c.before.before.args.threshold in
-    sym (ap (λ b. cond b c.before.if-most-wide.grown h) c.if-threshold-grown.false) ∙ ap (λ g. cond (lt h g) g h) (capped c.before)
+    let h = c.args.threshold in
+    sym (ap (λ b. cond b c.if-most-wide.grown h) c.if-threshold-grown.false) ∙ ap (λ g. cond (lt h g) g h) (capped c.before)
 
 pub grown_spec : {M : Type 1} → statement M
 grown_spec = tie.close (tie.spec returns returns-2)

@@ -11,14 +11,14 @@ returns : tie.Need-returns-then-widest-gap
 unfolding widened
 returns c =
     let start = c.before.before.before in
-    sym (ap₂ (λ a b. cond (a && b) start.args.gap start.args.widest) (sym c.before.before.is_finite.ensures ∙ c.before.if-is_finite.true)
+    sym (ap₂ (λ a b. cond (a && b) start.args.gap start.args.widest) (sym c.is_finite.ensures ∙ c.if-is_finite.true)
     c.if-widest-gap.true)
 
 returns-2 : tie.Need-returns-else-widest-gap
 unfolding widened
 returns-2 c =
     let start = c.before.before.before in
-    sym (ap₂ (λ a b. cond (a && b) start.args.gap start.args.widest) (sym c.before.before.is_finite.ensures ∙ c.before.if-is_finite.true)
+    sym (ap₂ (λ a b. cond (a && b) start.args.gap start.args.widest) (sym c.is_finite.ensures ∙ c.if-is_finite.true)
     c.if-widest-gap.false)
 
 returns-3 : tie.Need-returns-else-is_finite
@@ -26,7 +26,7 @@ unfolding widened
 returns-3 c =
     let start = c.before.before in
     sym (ap (λ a. cond (a && lt start.args.widest start.args.gap) start.args.gap start.args.widest)
-    (sym c.before.is_finite.ensures ∙ c.if-is_finite.false))
+    (sym c.is_finite.ensures ∙ c.if-is_finite.false))
 
 pub widen_spec : {M : Type 1} → statement M
 widen_spec = tie.close (tie.spec (λ c κs. search rules) returns returns-2 returns-3)

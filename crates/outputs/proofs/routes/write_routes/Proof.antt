@@ -26,8 +26,8 @@ unfolding copied_to
 loop-holds c = (omega arith, refl, refl)
 
 -- the row is there
-there : (c : tie.In-loop-k invariant-loop decreases-loop) → (c.before.loop-k.k + 1) * c.before.before.before.before.before.before.args.s.dim ≤ length c.before.before.before.before.before.before.args.rows.now
-there c = row_there c.before.before.before.before.before.before.args.s c.before.before.before.before.before.before.args.count c.before.loop-k.k _ c.loop-k-test.true c.before.before.before.before.before.before.requires.floats.2
+there : (c : tie.In-loop-k invariant-loop decreases-loop) → (c.loop-k.k + 1) * c.args.s.dim ≤ length c.args.rows.now
+there c = row_there c.args.s c.args.count c.loop-k.k _ c.loop-k-test.true c.requires.0.2
 
 row-requires : tie.Need-row-requires invariant-loop decreases-loop
 row-requires c κs = there c
@@ -35,42 +35,42 @@ row-requires c κs = there c
 route-requires : tie.Need-route-requires invariant-loop decreases-loop
 route-requires c κs =
     let start = c.before.before.before.before.before.before.before in
-    let wide = row_wide start.args.s start.args.rows.now c.before.before.loop-k.k (there (c.before)) in
-    ((start.requires.floats.0, start.requires.floats.1, rw c.row.ensures (omega arith)), start.requires.routable (let more = c.before.loop-k-test.true in omega arith))
+    let wide = row_wide start.args.s start.args.rows.now c.loop-k.k (there (c.before)) in
+    ((start.requires.0.0, start.requires.0.1, rw c.row.ensures (omega arith)), start.requires.1 (let more = c.loop-k-test.true in omega arith))
 
 cast-out : tie.Need-overflow_cast-out invariant-loop decreases-loop
-cast-out c = let few = c.before.before.before.before.before.before.before.before.requires.floats.0.entries_in in let small = (caps_small _ _ _ c.before.before.before.before.before.before.before.before.requires.floats.0).1 in let in-it = c.route.ensures.upper_bound in omega arith
+cast-out c = let few = c.requires.0.0.entries_in in let small = (caps_small _ _ _ c.requires.0.0).1 in let in-it = c.route.ensures.upper_bound in omega arith
 
 mul-out : tie.Need-offset_bounds-out-k invariant-loop decreases-loop
-mul-out c = let few = c.before.before.before.before.before.before.before.before.requires.floats.3 in let more = c.before.before.loop-k-test.true in omega arith
+mul-out c = let few = c.requires.0.3 in let more = c.loop-k-test.true in omega arith
 
 slice-write-out : tie.Need-bounds-out-k invariant-loop decreases-loop
-slice-write-out c = let few = c.before.before.before.before.before.before.before.before.requires.floats.3 in let more = c.before.before.loop-k-test.true in let long = c.before.before.before.loop-k.invariant.1 in omega arith
+slice-write-out c = let few = c.requires.0.3 in let more = c.loop-k-test.true in let long = c.loop-k.invariant.1 in omega arith
 
 loop-again : tie.Need-loop-k-preserved invariant-loop decreases-loop
 loop-again c =
     let start = c.before.before.before.before.before.before.before.before in
     let a = start.args in
-    let loop = c.before.before.before.loop-k in
-    let more = c.before.before.loop-k-test.true in
-    let few = start.requires.floats.3 in
+    let loop = c.loop-k in
+    let more = c.loop-k-test.true in
+    let few = start.requires.0.3 in
     let told = greedy a.s (tree_of a.s a.n a.floats.now a.links.now) in
     let new = map told (rows_of a.count a.s.dim a.rows.now) in
     let many = told_count a.s told a.count a.rows.now in
     let here : c.route.result ≡ get_or new loop.k 0 =
-    c.route.ensures.value ∙ ap told c.before.row.ensures ∙ sym (told_at a.s told a.count loop.k a.rows.now more) in (
+    c.route.ensures.value ∙ ap told c.row.ensures ∙ sym (told_at a.s told a.count loop.k a.rows.now more) in (
       omega arith,
       length-set loop.out loop.k c.route.result ∙ loop.invariant.1,
       ap₂ (λ l v. set l loop.k v) loop.invariant.2 here ∙ copied_turn new a.out.now loop.k 0 (omega arith) (omega arith),
     )
 
 same_length : tie.Need-shape_of-out invariant-loop decreases-loop
-same_length c = c.before.loop-k.invariant.1
+same_length c = c.loop-k.invariant.1
 
 returns : tie.Need-returns invariant-loop decreases-loop
 returns c =
-    let a = c.before.before.before.before.before.before.args in
-    let loop = c.before.loop-k in
+    let a = c.args in
+    let loop = c.loop-k in
     let told = greedy a.s (tree_of a.s a.n a.floats.now a.links.now) in
     let many = told_count a.s told a.count a.rows.now in
     let few = loop.invariant.0 in

@@ -10,23 +10,23 @@ use Rattle.outputs.proofs.spread.spread_at.Tie as tie
 
 int-to-float-result : tie.Need-int_to_float-result
 unfolding in_float
-int-to-float-result c = le→leb c.before.before.before.before.args.s.dim most (let few = c.before.before.before.before.requires.0.dim_few in omega arith)
+int-to-float-result c = le→leb c.args.s.dim most (let few = c.requires.0.dim_few in omega arith)
 
 mul-result : tie.Need-offset_bounds-e-k
-mul-result c = let few = c.before.before.requires.0.dim_few in let here = c.before.before.requires.2 in omega arith
+mul-result c = let few = c.requires.0.dim_few in let here = c.requires.2 in omega arith
 
 element-copy-out-result-2 : tie.Need-bounds-e-k
-element-copy-out-result-2 c = let few = c.before.before.requires.0.dim_few in let here = c.before.before.requires.2 in omega arith
+element-copy-out-result-2 c = let few = c.requires.0.dim_few in let here = c.requires.2 in omega arith
 
 returns : tie.Need-returns-in-Spherical
 returns c =
     let start = c.before.before.before.before in
-    spherical-at _ _ start.requires.0.dim_few _ start.requires.1 _ c.before.before.in-Spherical.is start.requires.2
+    spherical-at _ _ start.requires.0.dim_few _ start.requires.1 _ c.in-Spherical.is start.requires.2
 
 returns-2 : tie.Need-returns-in-Diagonal
 returns-2 c =
     let start = c.before.before.before in
-    diagonal-at _ _ start.requires.0.dim_few _ start.requires.1 _ c.before.in-Diagonal.is start.requires.2
+    diagonal-at _ _ start.requires.0.dim_few _ start.requires.1 _ c.in-Diagonal.is start.requires.2
 
 pub spread_at_spec : {M : Type 1} → statement M
 spread_at_spec = tie.close (tie.spec (λ c. search rules) (λ c. search rules) int-to-float-result (λ c. search rules) mul-result element-copy-out-result-2 returns returns-2)

@@ -22,41 +22,41 @@ abbrev decreases-loop : tie.decreases-loop-k
 decreases-loop s floats i out₀ e k₀ out k = s.dim - k
 
 -- the entry's shape, and the length of its output
-shaped : (c : tie.After-summary-e invariant-loop decreases-loop) → Shaped c.before.before.before.args.s.feature c.before.before.before.args.s.dim c.summary-e.result
+shaped : (c : tie.After-summary-e invariant-loop decreases-loop) → Shaped c.args.s.feature c.args.s.dim c.summary-e.result
 shaped c =
-    let a = c.before.before.before.args in
-    rw (c.summary-e.ensures []) (entry_shaped a.s c.before.before.before.requires.0.sized a.n a.floats.now [] a.i c.before.before.before.requires.1)
+    let a = c.args in
+    rw (c.summary-e.ensures []) (entry_shaped a.s c.requires.0.sized a.n a.floats.now [] a.i c.requires.1)
 
-long : (c : tie.At-loop-k invariant-loop decreases-loop) → length c.loop-k.out ≡ c.before.before.before.before.args.s.dim
-long c = ap length c.loop-k.invariant.1 ∙ length-up_to _ c.loop-k.k c.before.before.before.before.args.out.now ∙ c.before.before.before.before.requires.2
+long : (c : tie.At-loop-k invariant-loop decreases-loop) → length c.loop-k.out ≡ c.args.s.dim
+long c = ap length c.loop-k.invariant.1 ∙ length-up_to _ c.loop-k.k c.args.out.now ∙ c.requires.2
 
 loop-holds : tie.Need-loop-k-init invariant-loop decreases-loop
 unfolding up_to
 loop-holds c = (omega arith, refl)
 
 spread-at-requires : tie.Need-spread_at-requires invariant-loop decreases-loop
-spread-at-requires c κs = let long = long (c.before) in (c.before.before.before.before.before.requires.0.sized, shaped (c.before.before), let more = c.loop-k-test.true in omega arith)
+spread-at-requires c κs = let long = long (c.before) in (c.requires.0.sized, shaped (c.before.before), let more = c.loop-k-test.true in omega arith)
 
 loop-less : tie.Need-loop-k-smaller invariant-loop decreases-loop
-loop-less c = let long = long (c.before.before) in let more = c.before.loop-k-test.true in omega arith
+loop-less c = let long = long (c.before.before) in let more = c.loop-k-test.true in omega arith
 
 loop-again : tie.Need-loop-k-preserved invariant-loop decreases-loop
 unfolding up_to
 loop-again c =
     let long = long (c.before.before) in
-    let more = c.before.loop-k-test.true in
-    (omega arith, rw (c.spread_at.ensures, c.before.before.loop-k.invariant.1, add-one c.before.before.loop-k.k))
+    let more = c.loop-k-test.true in
+    (omega arith, rw (c.spread_at.ensures, c.loop-k.invariant.1, add-one c.loop-k.k))
 
 same_length : tie.Need-shape_of-out invariant-loop decreases-loop
-same_length c = long (c.before) ∙ sym c.before.before.before.before.before.requires.2
+same_length c = long (c.before) ∙ sym c.requires.2
 
 returns : tie.Need-returns invariant-loop decreases-loop
 returns c =
     let start = c.before.before.before.before.before in
-    let loop = c.before.loop-k in
+    let loop = c.loop-k in
     let long = long (c.before) in
     let rest = c.loop-k-test.false in
-    λ ls. rw (sym (c.before.before.summary-e.ensures ls))
+    λ ls. rw (sym (c.summary-e.ensures ls))
     (loop.invariant.1 ∙ spread_written_lem _ _ start.requires.0.sized.dim_few _ (shaped (c.before.before)) loop.k start.args.out.now start.requires.2 (omega arith) loop.invariant.0)
 
 pub write_one_spec : {M : Type 1} → statement M

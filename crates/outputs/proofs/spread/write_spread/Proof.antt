@@ -34,12 +34,12 @@ pieces c j h =
     spread_long a.s.feature a.s.dim z.dim_few _ (entry_shaped a.s z a.n a.floats.now [] j h)
 
 -- and ends within the output
-end : (c : tie.In-loop-i invariant-loop decreases-loop) → c.before.before.loop-i.i * c.before.before.before.before.before.args.s.dim + c.before.before.before.before.before.args.s.dim ≤ length c.before.before.loop-i.out
-end c = rw c.before.before.loop-i.invariant.1 (room c.before.before.loop-i.i c.before.before.before.before.before.args.n.entries c.before.before.before.before.before.args.s.dim (length c.before.before.before.before.before.args.out.now) c.loop-i-test.true c.before.before.before.before.before.requires.1)
+end : (c : tie.In-loop-i invariant-loop decreases-loop) → c.loop-i.i * c.args.s.dim + c.args.s.dim ≤ length c.loop-i.out
+end c = rw c.loop-i.invariant.1 (room c.loop-i.i c.args.n.entries c.args.s.dim (length c.args.out.now) c.loop-i-test.true c.requires.1)
 
 loop-holds : tie.Need-loop-i-init invariant-loop decreases-loop
 unfolding table concat
-loop-holds c = (omega arith, refl, ap (λ k. drop k c.before.before.args.out.now) (sym (zero-mul c.before.before.args.s.dim)))
+loop-holds c = (omega arith, refl, ap (λ k. drop k c.args.out.now) (sym (zero-mul c.args.s.dim)))
 
 mul_at : tie.Need-overflow_mul-at invariant-loop decreases-loop
 mul_at c = let end = end (c.before) in omega arith
@@ -56,32 +56,32 @@ part-write-one-end c = let end = end (c.before.before) in omega arith
 write-one-requires : tie.Need-write_one-requires invariant-loop decreases-loop
 write-one-requires c κs =
     let end = end (c.before.before.before) in
-    (c.before.before.before.before.before.before.before.before.requires.0, c.before.before.before.loop-i-test.true, simp (length-take, length-drop) (omega arith))
+    (c.requires.0, c.loop-i-test.true, simp (length-take, length-drop) (omega arith))
 
 loop-again : tie.Need-loop-i-preserved invariant-loop decreases-loop
 unfolding put_stretch
 loop-again c =
     let start = c.before.before.before.before.before.before.before.before.before.before.before in
     let a = start.args in
-    let loop = c.before.before.before.before.before.before.before.before.loop-i in
+    let loop = c.loop-i in
     let d = a.s.dim in
-    let new = c.before.before.write_one in
+    let new = c.write_one in
     let piece = spread_of a.s.feature d in
     let cut : loop.i * d + d - loop.i * d ≡ d = omega arith in (
-      (let more = c.before.before.before.before.before.before.loop-i-test.true in omega arith),
+      (let more = c.loop-i-test.true in omega arith),
       same_len_mid (loop.i * d) (loop.i * d + d - loop.i * d) loop.out new.new.1.1.1.1.0 new.auto.1.1.1.1.0 ∙ loop.invariant.1,
       rw cut (piece_turn (piece_of a.s a.n a.floats.now piece d) d loop.i a.out.now loop.out new.new.1.1.1.1.0
           (λ j l. pieces start j (let few = loop.invariant.0 in omega arith)) loop.invariant.2 (new.ensures [])),
     )
 
 same_length : tie.Need-shape_of-out invariant-loop decreases-loop
-same_length c = c.before.before.loop-i.invariant.1
+same_length c = c.loop-i.invariant.1
 
 returns : tie.Need-returns invariant-loop decreases-loop
 returns c =
     let start = c.before.before.before.before.before in
     let a = start.args in
-    let loop = c.before.before.loop-i in
+    let loop = c.loop-i in
     let all : loop.i ≡ a.n.entries = (let rest = c.loop-i-test.false in let few = loop.invariant.0 in omega arith) in
     λ ls. loop.invariant.2 ∙ pieces_all a.s a.n a.floats.now (spread_of a.s.feature a.s.dim) a.s.dim ls loop.i a.out.now all
     (λ j l. pieces start j (omega arith))

@@ -21,29 +21,29 @@ loop-holds : tie.Need-loop-k-init invariant-loop decreases-loop
 loop-holds c = (omega arith, λ fs. refl)
 
 cast-i : tie.Need-overflow_cast-i invariant-loop decreases-loop
-cast-i c = omega (arith, c.shared_slice_known-in-loop-k-1.given c.before.before.loop-k.k)
+cast-i c = omega (arith, c.shared_slice_known-in-loop-k-1.given c.loop-k.k)
 
 is-leaf-requires : tie.Need-is_leaf-requires invariant-loop decreases-loop
 is-leaf-requires c κs =
     let start = c.before.before.before.before.before in
-    (start.requires.0, node_listed _ _ start.requires.1 c.before.before.loop-k.k c.before.loop-k-test.true)
+    (start.requires.0, node_listed _ _ start.requires.1 c.loop-k.k c.loop-k-test.true)
 
 loop-again : tie.Need-loop-k-preserved invariant-loop decreases-loop
 loop-again c =
-    let loop = c.before.before.before.before.loop-k in (
-      omega (arith, c.before.before.before.loop-k-test.true),
+    let loop = c.loop-k in (
+      omega (arith, c.loop-k-test.true),
       λ fs. loop.invariant.1 fs ∙ leaves_turn _ _ loop.k
-          c.before.before.before.loop-k-test.true (sym (c.before.is_leaf.ensures fs) ∙ c.if-is_leaf.true),
+          c.loop-k-test.true (sym (c.is_leaf.ensures fs) ∙ c.if-is_leaf.true),
     )
 
 returns : tie.Need-returns-else-is_leaf invariant-loop decreases-loop
 returns c =
-    let loop = c.before.before.before.before.loop-k in
-    λ fs. sym (loop.invariant.1 fs ∙ leaves_stop _ _ loop.k c.before.before.before.loop-k-test.true
-    (sym (c.before.is_leaf.ensures fs) ∙ c.if-is_leaf.false))
+    let loop = c.loop-k in
+    λ fs. sym (loop.invariant.1 fs ∙ leaves_stop _ _ loop.k c.loop-k-test.true
+    (sym (c.is_leaf.ensures fs) ∙ c.if-is_leaf.false))
 
 returns-2 : tie.Need-returns invariant-loop decreases-loop
-returns-2 c = λ fs. sym (c.before.loop-k.invariant.1 fs ∙ leaves_end _ _ c.before.loop-k.k (omega (arith, c.loop-k-test.false)))
+returns-2 c = λ fs. sym (c.loop-k.invariant.1 fs ∙ leaves_end _ _ c.loop-k.k (omega (arith, c.loop-k-test.false)))
 
 pub all_leaves_spec : {M : Type 1} → statement M
 all_leaves_spec = tie.close

@@ -30,21 +30,21 @@ unfolding partner_of Inside
 loop-holds c = (omega arith, tt, refl)
 
 cast-list : tie.Need-overflow_cast-leaves invariant-loop decreases-loop
-cast-list c = omega (arith, c.shared_slice_known-in-loop-k-1.given c.before.before.loop-k.k)
+cast-list c = omega (arith, c.shared_slice_known-in-loop-k-1.given c.loop-k.k)
 
 list-requires : tie.Need-list-list-requires invariant-loop decreases-loop
 list-requires c κs =
     let start = c.before.before.before.before.before.before in
-    (start.requires.floats.1, node_listed _ _ start.requires.leaves.nodes c.before.before.loop-k.k c.before.loop-k-test.true)
+    (start.requires.0.1, node_listed _ _ start.requires.1.nodes c.loop-k.k c.loop-k-test.true)
 
 cheapest-requires : tie.Need-cheapest-best-requires invariant-loop decreases-loop
 cheapest-requires c κs =
     let start = c.before.before.before.before.before.before.before in (
-      start.requires.floats.0,
+      start.requires.0.0,
       subst (ChildrenIn start.args.n true) (sym (c.list-list.ensures start.args.floats.now))
-          (start.requires.leaves.entries c.before.before.before.loop-k.k c.before.before.loop-k-test.true),
-      start.requires.floats.2,
-      c.before.before.before.loop-k.invariant.1,
+          (start.requires.1.entries c.loop-k.k c.loop-k-test.true),
+      start.requires.0.2,
+      c.loop-k.invariant.1,
     )
 
 loop-again : tie.Need-loop-k-preserved invariant-loop decreases-loop
@@ -54,15 +54,15 @@ loop-again c =
     let i = start.args.i in
     let leaves = start.args.leaves.now in
     let t = tree_of s start.args.n start.args.floats.now start.args.links.now in
-    let l = c.before.before.before.before.loop-k in
+    let l = c.loop-k in
     let f = cost_of s t i in
     let rest = beneath t (drop (l.k + 1) leaves) in (
-      omega (arith, c.before.before.before.loop-k-test.true),
+      omega (arith, c.loop-k-test.true),
       c.cheapest-best.ensures.inside,
       ap (λ b. partner f i b rest)
-          (c.cheapest-best.ensures.any_links start.args.links.now ∙ ap (partner f i (partner_of l.best)) (c.before.list-list.ensures start.args.floats.now))
+          (c.cheapest-best.ensures.any_links start.args.links.now ∙ ap (partner f i (partner_of l.best)) (c.list-list.ensures start.args.floats.now))
           ∙ sym (partner-append f i (partner_of l.best) (node_at t (get_or leaves l.k 0)).list-list rest)
-          ∙ ap (partner f i (partner_of l.best)) (sym (beneath_turn t leaves l.k c.before.before.before.loop-k-test.true))
+          ∙ ap (partner f i (partner_of l.best)) (sym (beneath_turn t leaves l.k c.loop-k-test.true))
           ∙ l.invariant.2,
     )
 
@@ -70,7 +70,7 @@ returns : tie.Need-returns invariant-loop decreases-loop
 unfolding partner
 returns c =
     let start = c.before.before.before.before.before in
-    let l = c.before.loop-k in
+    let l = c.loop-k in
     let t = tree_of start.args.s start.args.n start.args.floats.now start.args.links.now in
     let f = cost_of start.args.s t start.args.i in (
       sym (ap (partner f start.args.i (partner_of l.best)) (beneath_end t start.args.leaves.now l.k (omega (arith, c.loop-k-test.false)))) ∙

@@ -39,19 +39,19 @@ loop-holds c = (omega arith, omega arith, refl, refl, refl)
 push-cousins-requires : tie.Need-push_cousins-count-requires invariant-loop decreases-loop
 push-cousins-requires c κs =
     let start = c.before.before.before.before.before.before.before.before.before in
-    let l = c.before.before.before.before.loop-i in (
-      (start.requires.floats.0, start.requires.floats.1, start.requires.floats.2, c.before.before.loop-i-test.true),
-      room_under start.args.s start.args.n start.args.floats.now start.args.links.now start.requires.floats.0 start.requires.floats.2
-          l.i l.count c.before.before.loop-i-test.true l.invariant.1 start.requires.room l.invariant.2 l.invariant.3,
+    let l = c.loop-i in (
+      (start.requires.0.0, start.requires.0.1, start.requires.0.2, c.loop-i-test.true),
+      room_under start.args.s start.args.n start.args.floats.now start.args.links.now start.requires.0.0 start.requires.0.2
+          l.i l.count c.loop-i-test.true l.invariant.1 start.requires.1 l.invariant.2 l.invariant.3,
     )
 
 loop-again : tie.Need-loop-i-preserved invariant-loop decreases-loop
 loop-again c =
     let start = c.before.before.before.before.before.before.before.before.before.before.before.before.before.before in
-    let test = c.before.before.before.before.before.before.before.loop-i-test in
-    let push-cousins = c.before.before.before.before.push_cousins-count in
+    let test = c.loop-i-test in
+    let push-cousins = c.push_cousins-count in
     let t = tree start in
-    let l = c.before.before.before.before.before.before.before.before.before.loop-i in (
+    let l = c.loop-i in (
       omega (arith, test.true),
       omega (arith, under_more t l.i, l.invariant.1, push-cousins.ensures.1),
       push-cousins.auto.1.1.1.1.1.0 ∙ l.invariant.2,
@@ -61,18 +61,18 @@ loop-again c =
     )
 
 same_length : tie.Need-shape_of-costs invariant-loop decreases-loop
-same_length c = c.before.before.loop-i.invariant.2
+same_length c = c.loop-i.invariant.2
 
 same-length-2 : tie.Need-shape_of-numbers invariant-loop decreases-loop
-same-length-2 c = c.before.before.loop-i.invariant.3
+same-length-2 c = c.loop-i.invariant.3
 
 returns : tie.Need-returns invariant-loop decreases-loop
 returns c =
     let start = c.before.before.before.before.before.before.before in
-    let l = c.before.before.loop-i in (
+    let l = c.loop-i in (
       sym (cousins_end start.args.s (tree start) l.i _
           (rw (count_nodes_lem start.args.s start.args.n start.args.floats.now start.args.links.now) (omega (arith, c.loop-i-test.false)))) ∙ l.invariant.4,
-      all_under start.args.s start.args.n start.args.floats.now start.args.links.now start.requires.floats.0 start.requires.floats.2 l.i l.count
+      all_under start.args.s start.args.n start.args.floats.now start.args.links.now start.requires.0.0 start.requires.0.2 l.i l.count
           l.invariant.0 l.invariant.1,
     )
 

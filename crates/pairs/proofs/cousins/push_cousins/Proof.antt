@@ -23,28 +23,28 @@ tree c = tree_of c.args.s c.args.n c.args.floats.now c.args.links.now
 
 -- node i is no leaf, and the list that was read is its own
 is-inner : (c : tie.After-list-list) → (node_at (tree c.before.before.before.before.before.before.before)
-    c.before.before.before.before.before.before.before.args.i).leaf ≡ false
+    c.args.i).leaf ≡ false
 is-inner c =
     let start = c.before.before.before.before.before.before.before in
-    sym (c.before.before.is_leaf.ensures start.args.floats.now) ∙ c.before.if-is_leaf.false
+    sym (c.is_leaf.ensures start.args.floats.now) ∙ c.if-is_leaf.false
 
 own-list : (c : tie.After-list-list) → c.list-list.result.now ≡ (node_at (tree c.before.before.before.before.before.before.before)
-    c.before.before.before.before.before.before.before.args.i).list-list
+    c.args.i).list-list
 own-list c =
     let start = c.before.before.before.before.before.before.before in
     c.list-list.ensures start.args.floats.now
 
-children : (c : tie.After-list-list) → ChildrenIn c.before.before.before.before.before.before.before.args.n false c.list-list.result.now
+children : (c : tie.After-list-list) → ChildrenIn c.args.n false c.list-list.result.now
 children c =
     let start = c.before.before.before.before.before.before.before in
     subst (ChildrenIn start.args.n false) (sym (own-list c))
-    (frame_children start.args.s start.args.n start.args.floats.now start.args.links.now start.requires.floats.2 start.args.i
-    start.requires.floats.3 false (is-inner c))
+    (frame_children start.args.s start.args.n start.args.floats.now start.args.links.now start.requires.0.2 start.args.i
+    start.requires.0.3 false (is-inner c))
 
 -- all nodes of its list are leaves
 all_leaves_lem : (c : tie.After-all_leaves) → c.all_leaves_lem.result ≡ true → all_leaves (tree c.before.before.before.before.before.before.before.before)
     (node_at (tree c.before.before.before.before.before.before.before.before)
-    c.before.before.before.before.before.before.before.before.args.i).list-list ≡ true
+    c.args.i).list-list ≡ true
 all_leaves_lem c e =
     let start = c.before.before.before.before.before.before.before.before in
     ap (all_leaves (tree start)) (sym (own-list c.before)) ∙ sym (c.all_leaves_lem.ensures start.args.floats.now) ∙ e
@@ -53,37 +53,37 @@ returns : tie.Need-returns-then-is_leaf
 returns c =
     let start = c.before.before.before.before.before.before in (
       cousins-none start.args.s (tree start) start.args.i _
-          (not-inner _ _ (sym (c.before.is_leaf.ensures start.args.floats.now) ∙ c.if-is_leaf.true)),
+          (not-inner _ _ (sym (c.is_leaf.ensures start.args.floats.now) ∙ c.if-is_leaf.true)),
       omega arith,
     )
 
 all-leaves-requires : tie.Need-all_leaves-requires
 all-leaves-requires c κs =
     let start = c.before.before.before.before.before.before.before in
-    (start.requires.floats.1, children c)
+    (start.requires.0.1, children c)
 
 push-leaves-requires : tie.Need-push_leaves-requires
 push-leaves-requires c κs =
     let start = c.before.before.before.before.before.before.before.before.before.before.before in
-    let all = all_leaves_lem c.before.before.before c.before.before.if-all_leaves.true in
+    let all = all_leaves_lem c.before.before.before c.if-all_leaves.true in
     let own = own-list c.before.before.before.before in (
       (
-        start.requires.floats.0,
-        start.requires.floats.1,
-        leaves_of start.args.s start.args.n start.args.floats.now start.args.links.now _ start.requires.floats.2
+        start.requires.0.0,
+        start.requires.0.1,
+        leaves_of start.args.s start.args.n start.args.floats.now start.args.links.now _ start.requires.0.2
             (children c.before.before.before.before)
-            (sym (c.before.before.before.all_leaves_lem.ensures start.args.floats.now) ∙ c.before.before.if-all_leaves.true),
+            (sym (c.all_leaves_lem.ensures start.args.floats.now) ∙ c.if-all_leaves.true),
       ),
       subst (λ k. Room (start.args.count + k) (length start.args.costs.now) (length start.args.numbers.now))
           (sym (under-inner (tree start) start.args.i (is-inner c.before.before.before.before) all) ∙ ap (λ l. length (beneath (tree start) l))
-          (sym own)) start.requires.room,
+          (sym own)) start.requires.1,
     )
 
 returns-2 : tie.Need-returns-then-all_leaves
 returns-2 c =
     let start = c.before.before.before.before.before.before.before.before.before.before.before.before.before.before.before.before in
-    let test2 = c.before.before.before.before.before.before.before.if-all_leaves in
-    let push-leaves = c.before.before.before.before.push_leaves in
+    let test2 = c.if-all_leaves in
+    let push-leaves = c.push_leaves in
     let i = start.args.i in
     let t = tree start in
     let ps = pairs_in start.args.costs.now start.args.numbers.now start.args.count in
@@ -101,7 +101,7 @@ returns-3 c =
     let start = c.before.before.before.before.before.before.before.before.before in (
       cousins-none start.args.s (tree start) start.args.i _
           (not-all (node_at (tree start) start.args.i).leaf _
-          (ap (all_leaves (tree start)) (sym (own-list c.before.before)) ∙ sym (c.before.all_leaves_lem.ensures start.args.floats.now) ∙
+          (ap (all_leaves (tree start)) (sym (own-list c.before.before)) ∙ sym (c.all_leaves_lem.ensures start.args.floats.now) ∙
           c.if-all_leaves.false)),
       omega arith,
     )

@@ -28,31 +28,31 @@ abbrev decreases-loop : tie.decreases-loop-k
 decreases-loop s n floats links leaves list costs₀ numbers₀ count m₀ k₀ costs numbers m k = length list - k
 
 -- the place after this one is in its word
-next_fits : (c : tie.After-shared_slice_known-in-loop-k-1 invariant-loop decreases-loop) → Fits w64 (c.before.before.loop-k.k + 1)
+next_fits : (c : tie.After-shared_slice_known-in-loop-k-1 invariant-loop decreases-loop) → Fits w64 (c.loop-k.k + 1)
 next_fits c = search rules
 
 loop-holds : tie.Need-loop-k-init invariant-loop decreases-loop
 loop-holds c = (omega arith, omega arith, refl, refl, refl)
 
 cast-i : tie.Need-overflow_cast-i invariant-loop decreases-loop
-cast-i c = omega (arith, c.shared_slice_known-in-loop-k-1.given c.before.before.loop-k.k)
+cast-i c = omega (arith, c.shared_slice_known-in-loop-k-1.given c.loop-k.k)
 
 cheapest-beneath-requires : tie.Need-cheapest_beneath-p-requires invariant-loop decreases-loop
 cheapest-beneath-requires c κs =
     let start = c.before.before.before.before.before.before.before.before.before in
-    ((start.requires.floats.0, start.requires.floats.1, entry_listed _ _ start.requires.children_in.0 c.before.before.loop-k.k c.before.loop-k-test.true), start.requires.floats.2)
+    ((start.requires.0.0, start.requires.0.1, entry_listed _ _ start.requires.1.0 c.loop-k.k c.loop-k-test.true), start.requires.0.2)
 
 push-requires : tie.Need-push-m-requires invariant-loop decreases-loop
 push-requires c κs =
     let start = c.before.before.before.before.before.before.before.before.before.before.before.before in
-    let loop = c.before.before.before.before.before.loop-k in
-    let more = c.before.before.before.before.loop-k-test in
+    let loop = c.loop-k in
+    let more = c.loop-k-test in
     let inv = loop.invariant in (
-      among loop.m start.requires.children_in.1 inv.2 inv.3 (omega (arith, inv.0, more.true)),
-      omega (arith, c.before.before.before.shared_slice_known-in-loop-k-1.given loop.k),
-      inside_more start.args.n.entries 4294967296 (partner_of c.before.before.cheapest_beneath-p.result)
-          c.before.before.cheapest_beneath-p.ensures.inside
-          (entries_few start.args.s start.args.n _ start.requires.floats.0),
+      among loop.m start.requires.1.1 inv.2 inv.3 (omega (arith, inv.0, more.true)),
+      omega (arith, c.shared_slice_known-in-loop-k-1.given loop.k),
+      inside_more start.args.n.entries 4294967296 (partner_of c.cheapest_beneath-p.result)
+          c.cheapest_beneath-p.ensures.inside
+          (entries_few start.args.s start.args.n _ start.requires.0.0),
     )
 
 add-k : tie.Need-overflow_add-k invariant-loop decreases-loop
@@ -61,10 +61,10 @@ add-k c = next_fits c.before.before.before.before.before.before.before.before
 loop-again : tie.Need-loop-k-preserved invariant-loop decreases-loop
 loop-again c =
     let start = c.before.before.before.before.before.before.before.before.before.before.before.before.before.before.before.before.before in
-    let more = c.before.before.before.before.before.before.before.before.before.loop-k-test in
-    let cheapest-beneath = c.before.before.before.before.before.before.before.cheapest_beneath-p in
-    let push = c.before.before.before.before.push-m in
-    let l = c.before.before.before.before.before.before.before.before.before.before.loop-k in
+    let more = c.loop-k-test in
+    let cheapest-beneath = c.cheapest_beneath-p in
+    let push = c.push-m in
+    let l = c.loop-k in
     let s = start.args.s in
     let list = start.args.list.now in
     let t = tree_of s start.args.n start.args.floats.now start.args.links.now in (
@@ -77,15 +77,15 @@ loop-again c =
     )
 
 same_length : tie.Need-shape_of-costs invariant-loop decreases-loop
-same_length c = c.before.loop-k.invariant.2
+same_length c = c.loop-k.invariant.2
 
 same-length-2 : tie.Need-shape_of-numbers invariant-loop decreases-loop
-same-length-2 c = c.before.loop-k.invariant.3
+same-length-2 c = c.loop-k.invariant.3
 
 returns : tie.Need-returns invariant-loop decreases-loop
 returns c =
     let start = c.before.before.before.before.before.before.before.before in
-    let l = c.before.loop-k in
+    let l = c.loop-k in
     (sym (partners_end _ _ _ start.args.list.now l.k _ (omega (arith, c.loop-k-test.false))) ∙ l.invariant.4, omega (arith, l.invariant.0, l.invariant.1))
 
 pub push_leaf_spec : {M : Type 1} → statement M

@@ -33,50 +33,50 @@ abbrev tree : tie.Start invariant-loop decreases-loop → Tree
 tree c = tree_of c.args.s c.args.n c.args.floats.now c.args.links.now
 
 -- the place after this one is in its word
-next_fits : (c : tie.After-shared_slice_known-in-loop-k-1 invariant-loop decreases-loop) → Fits w64 (c.before.before.loop-k.k + 1)
+next_fits : (c : tie.After-shared_slice_known-in-loop-k-1 invariant-loop decreases-loop) → Fits w64 (c.loop-k.k + 1)
 next_fits c = search rules
 
 -- what this leaf lists, and what is left behind it
 left : (c : tie.After-list-list invariant-loop decreases-loop)
     → length c.list-list.result.now + length
     (beneath (tree c.before.before.before.before.before.before.before.before.before)
-    (drop (c.before.before.before.loop-k.k + 1) c.before.before.before.before.before.before.before.before.before.args.leaves.now))
+    (drop (c.loop-k.k + 1) c.args.leaves.now))
     ≡ length (beneath (tree c.before.before.before.before.before.before.before.before.before)
-    (drop c.before.before.before.loop-k.k c.before.before.before.before.before.before.before.before.before.args.leaves.now))
+    (drop c.loop-k.k c.args.leaves.now))
 left c =
     let start = c.before.before.before.before.before.before.before.before.before in
     let t = tree start in
     let leaves = start.args.leaves.now in
-    let k = c.before.before.before.loop-k.k in
+    let k = c.loop-k.k in
     ap (λ l. length l + length (beneath t (drop (k + 1) leaves))) (c.list-list.ensures start.args.floats.now)
     ∙ sym (length-append (node_at t (get_or leaves k 0)).list-list (beneath t (drop (k + 1) leaves)))
-    ∙ ap length (sym (beneath_turn t leaves k c.before.before.loop-k-test.true))
+    ∙ ap length (sym (beneath_turn t leaves k c.loop-k-test.true))
 
 loop-holds : tie.Need-loop-k-init invariant-loop decreases-loop
 loop-holds c = (omega arith, omega arith, refl, refl, refl)
 
 cast-list : tie.Need-overflow_cast-leaves invariant-loop decreases-loop
-cast-list c = omega (arith, c.shared_slice_known-in-loop-k-1.given c.before.before.loop-k.k)
+cast-list c = omega (arith, c.shared_slice_known-in-loop-k-1.given c.loop-k.k)
 
 list-requires : tie.Need-list-list-requires invariant-loop decreases-loop
 list-requires c κs =
     let start = c.before.before.before.before.before.before.before.before in
-    (start.requires.floats.1, node_listed _ _ start.requires.floats.2.nodes c.before.before.loop-k.k c.before.loop-k-test.true)
+    (start.requires.0.1, node_listed _ _ start.requires.0.2.nodes c.loop-k.k c.loop-k-test.true)
 
 push-leaf-requires : tie.Need-push_leaf-m-requires invariant-loop decreases-loop
 push-leaf-requires c κs =
     let start = c.before.before.before.before.before.before.before.before.before.before.before in
-    let loop = c.before.before.before.before.before.loop-k in
-    let more' = c.before.before.before.before.loop-k-test in
+    let loop = c.loop-k in
+    let more' = c.loop-k-test in
     let inv = loop.invariant in
     let more = left c.before.before in (
-      start.requires.floats,
+      start.requires.0,
       (
-        subst (ChildrenIn start.args.n true) (sym (c.before.before.list-list.ensures start.args.floats.now))
-            (start.requires.floats.2.entries loop.k more'.true),
+        subst (ChildrenIn start.args.n true) (sym (c.list-list.ensures start.args.floats.now))
+            (start.requires.0.2.entries loop.k more'.true),
         record {
-          floats_in_lem = omega (arith, inv.0, inv.2, start.requires.room.floats_in_lem);
-          numbers_in = omega (arith, inv.0, inv.3, start.requires.room.numbers_in);
+          floats_in_lem = omega (arith, inv.0, inv.2, start.requires.1.floats_in_lem);
+          numbers_in = omega (arith, inv.0, inv.3, start.requires.1.numbers_in);
         },
       ),
     )
@@ -87,11 +87,11 @@ add-k c = next_fits c.before.before.before.before.before.before.before.before
 loop-again : tie.Need-loop-k-preserved invariant-loop decreases-loop
 loop-again c =
     let start = c.before.before.before.before.before.before.before.before.before.before.before.before.before.before.before.before in
-    let more' = c.before.before.before.before.before.before.before.before.before.loop-k-test in
-    let list = c.before.before.before.before.before.before.before.list-list in
-    let push-leaf = c.before.before.before.before.push_leaf-m in
+    let more' = c.loop-k-test in
+    let list = c.list-list in
+    let push-leaf = c.push_leaf-m in
     let t = tree start in
-    let l = c.before.before.before.before.before.before.before.before.before.before.loop-k in
+    let l = c.loop-k in
     let leaves = start.args.leaves.now in
     let more = left c.before.before.before.before.before.before.before in (
       omega (arith, l.invariant.0, push-leaf.ensures.1),
@@ -105,15 +105,15 @@ loop-again c =
     )
 
 same_length : tie.Need-shape_of-costs invariant-loop decreases-loop
-same_length c = c.before.loop-k.invariant.2
+same_length c = c.loop-k.invariant.2
 
 same-length-2 : tie.Need-shape_of-numbers invariant-loop decreases-loop
-same-length-2 c = c.before.loop-k.invariant.3
+same-length-2 c = c.loop-k.invariant.3
 
 returns : tie.Need-returns invariant-loop decreases-loop
 returns c =
     let start = c.before.before.before.before.before.before.before in
-    let l = c.before.loop-k in
+    let l = c.loop-k in
     (sym (leaves_done _ _ _ start.args.leaves.now l.k _ (omega (arith, c.loop-k-test.false))) ∙ l.invariant.4, omega (arith, l.invariant.0))
 
 pub push_leaves_spec : {M : Type 1} → statement M

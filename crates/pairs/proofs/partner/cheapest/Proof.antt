@@ -24,27 +24,27 @@ abbrev decreases-loop : tie.decreases-loop-k
 decreases-loop s n floats list i best₀ k₀ best k = length list - k
 
 loop-holds : tie.Need-loop-k-init invariant-loop decreases-loop
-loop-holds c = (omega arith, c.before.before.requires.3, λ ls. refl)
+loop-holds c = (omega arith, c.requires.3, λ ls. refl)
 
 cast-j : tie.Need-overflow_cast-j invariant-loop decreases-loop
-cast-j c = omega (arith, c.shared_slice_known-in-loop-k-1.given c.before.before.loop-k.k)
+cast-j c = omega (arith, c.shared_slice_known-in-loop-k-1.given c.loop-k.k)
 
 merge-cost-requires : tie.Need-merge_cost-cost-requires invariant-loop decreases-loop
 unfolding ChildrenIn ChildIn
 merge-cost-requires c κs =
     let start = c.before.before.before.before.before.before in
-    (start.requires.0, start.requires.2, start.requires.1 c.before.before.before.loop-k.k c.before.before.loop-k-test.true)
+    (start.requires.0, start.requires.2, start.requires.1 c.loop-k.k c.loop-k-test.true)
 
 loop-again : tie.Need-loop-k-preserved invariant-loop decreases-loop
 unfolding ChildrenIn ChildIn cost_of
 loop-again c =
     let start = c.before.before.before.before.before.before in
-    let l = c.before.before.before.loop-k in
+    let l = c.loop-k in
     let s = start.args.s in
     let n = start.args.n in
     let list = start.args.list.now in
     let f : List ℕ → ℕ → Float = λ ls. cost_of s (tree_of s n start.args.floats.now ls) start.args.i in
-    let more = c.before.before.loop-k-test.true in
+    let more = c.loop-k-test.true in
     ⊎_elim
     (λ w. (
       omega arith,
@@ -65,7 +65,7 @@ loop-again c =
 returns : tie.Need-returns invariant-loop decreases-loop
 returns c =
     let start = c.before.before.before.before in
-    let l = c.before.loop-k in
+    let l = c.loop-k in
     (λ ls. sym (partner_end _ _ (partner_of l.best) start.args.list.now l.k (omega (arith, c.loop-k-test.false))) ∙ l.invariant.2 ls, l.invariant.1)
 
 pub cheapest_spec : {M : Type 1} → statement M

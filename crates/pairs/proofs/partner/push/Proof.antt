@@ -22,15 +22,15 @@ put-requires c κs =
       (
         start.requires.1,
         named_inside 4294967296 (partner_of start.args.p) _ _
-            (partner_named start.args.p _ _ c.before.before.before.in-Named.is) start.requires.2,
+            (partner_named start.args.p _ _ c.in-Named.is) start.requires.2,
       ),
     )
 
 returns-2 : tie.Need-returns
 returns-2 c =
     let start = c.before.before.before.before.before.before.before.before.before.before.before.before in
-    let told = c.before.before.before.before.before.before.before.before.p in
-    let put = c.before.before.before.before.put in (
+    let told = c.p in
+    let put = c.put in (
       pair-pushed start.args.count start.args.i _ _ (partner_of start.args.p) (partner_named start.args.p _ _ told.given.1) put.ensures,
       omega arith,
     )

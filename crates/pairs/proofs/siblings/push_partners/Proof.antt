@@ -27,23 +27,23 @@ loop-holds : tie.Need-loop-k-init invariant-loop decreases-loop
 loop-holds c = (omega arith, omega arith, refl, refl, λ ls. refl)
 
 cast-i : tie.Need-overflow_cast-i invariant-loop decreases-loop
-cast-i c = omega (arith, c.shared_slice_known-in-loop-k-1.given c.before.before.loop-k.k)
+cast-i c = omega (arith, c.shared_slice_known-in-loop-k-1.given c.loop-k.k)
 
 cheapest-requires : tie.Need-cheapest-p-requires invariant-loop decreases-loop
 unfolding ChildrenIn ChildIn partner_of Inside
 cheapest-requires c κs =
     let start = c.before.before.before.before.before.before.before in
-    (start.requires.0, start.requires.1, start.requires.1 c.before.before.loop-k.k c.before.loop-k-test.true, tt)
+    (start.requires.0, start.requires.1, start.requires.1 c.loop-k.k c.loop-k-test.true, tt)
 
 push-requires : tie.Need-push-m-requires invariant-loop decreases-loop
 push-requires c κs =
     let start = c.before.before.before.before.before.before.before.before.before.before in
-    let loop = c.before.before.before.before.before.loop-k in
-    let more = c.before.before.before.before.loop-k-test in
+    let loop = c.loop-k in
+    let more = c.loop-k-test in
     let inv = loop.invariant in (
       among loop.m start.requires.2 inv.2 inv.3 (omega (arith, inv.0, more.true)),
-      omega (arith, c.before.before.before.shared_slice_known-in-loop-k-1.given loop.k),
-      inside_more start.args.n.entries 4294967296 (partner_of c.before.before.cheapest-p.result) c.before.before.cheapest-p.ensures.inside
+      omega (arith, c.shared_slice_known-in-loop-k-1.given loop.k),
+      inside_more start.args.n.entries 4294967296 (partner_of c.cheapest-p.result) c.cheapest-p.ensures.inside
           (entries_few start.args.s start.args.n _ start.requires.0),
     )
 
@@ -51,10 +51,10 @@ loop-again : tie.Need-loop-k-preserved invariant-loop decreases-loop
 unfolding partner_of
 loop-again c =
     let start = c.before.before.before.before.before.before.before.before.before.before.before.before.before.before.before in
-    let more = c.before.before.before.before.before.before.before.before.before.loop-k-test in
-    let cheapest = c.before.before.before.before.before.before.before.cheapest-p in
-    let push = c.before.before.before.before.push-m in
-    let l = c.before.before.before.before.before.before.before.before.before.before.loop-k in
+    let more = c.loop-k-test in
+    let cheapest = c.cheapest-p in
+    let push = c.push-m in
+    let l = c.loop-k in
     let s = start.args.s in
     let list = start.args.list.now in (
       omega (arith, push.ensures.1, l.invariant.0),
@@ -67,15 +67,15 @@ loop-again c =
     )
 
 same_length : tie.Need-shape_of-costs invariant-loop decreases-loop
-same_length c = c.before.loop-k.invariant.2
+same_length c = c.loop-k.invariant.2
 
 same-length-2 : tie.Need-shape_of-numbers invariant-loop decreases-loop
-same-length-2 c = c.before.loop-k.invariant.3
+same-length-2 c = c.loop-k.invariant.3
 
 returns : tie.Need-returns invariant-loop decreases-loop
 returns c =
     let start = c.before.before.before.before.before.before in
-    let l = c.before.loop-k in
+    let l = c.loop-k in
     (λ ls. sym (partners_end _ _ _ start.args.list.now l.k _ (omega (arith, c.loop-k-test.false))) ∙ l.invariant.4 ls, omega (arith, l.invariant.0, l.invariant.1))
 
 pub push_partners_spec : {M : Type 1} → statement M

@@ -23,13 +23,13 @@ tree c = tree_of c.args.s c.args.n c.args.floats.now c.args.links.now
 
 -- node i is a leaf, and the list that was read is its own
 is_leaf : (c : tie.After-list-list) → (node_at (tree c.before.before.before.before.before.before.before)
-    c.before.before.before.before.before.before.before.args.i).leaf ≡ true
+    c.args.i).leaf ≡ true
 is_leaf c =
     let start = c.before.before.before.before.before.before.before in
-    sym (c.before.before.is_leaf.ensures start.args.floats.now) ∙ c.before.if-is_leaf.true
+    sym (c.is_leaf.ensures start.args.floats.now) ∙ c.if-is_leaf.true
 
 own-list : (c : tie.After-list-list) → c.list-list.result.now ≡ (node_at (tree c.before.before.before.before.before.before.before)
-    c.before.before.before.before.before.before.before.args.i).list-list
+    c.args.i).list-list
 own-list c =
     let start = c.before.before.before.before.before.before.before in
     c.list-list.ensures start.args.floats.now
@@ -44,19 +44,19 @@ push-partners-requires c κs =
     let start = c.before.before.before.before.before.before.before.before.before.before in
     let leaf = is_leaf c.before.before.before in
     let own = own-list c.before.before.before in (
-      start.requires.floats.0,
+      start.requires.0.0,
       subst (ChildrenIn start.args.n true) (sym own)
-          (frame_children start.args.s start.args.n start.args.floats.now start.args.links.now start.requires.floats.2 start.args.i
-          start.requires.floats.3 true leaf),
+          (frame_children start.args.s start.args.n start.args.floats.now start.args.links.now start.requires.0.2 start.args.i
+          start.requires.0.3 true leaf),
       subst (λ k. Room (start.args.count + k) (length start.args.costs.now) (length start.args.numbers.now))
-          (listed-leaf (tree start) start.args.i leaf ∙ ap length (sym own)) start.requires.room,
+          (listed-leaf (tree start) start.args.i leaf ∙ ap length (sym own)) start.requires.1,
     )
 
 returns-2 : tie.Need-returns-then-is_leaf
 returns-2 c =
     let start = c.before.before.before.before.before.before.before.before.before.before.before.before.before.before.before in
-    let test2 = c.before.before.before.before.before.before.before.if-list-lt2 in
-    let push-partners = c.before.before.before.before.push_partners in
+    let test2 = c.if-list-lt2 in
+    let push-partners = c.push_partners in
     let s = start.args.s in
     let i = start.args.i in
     let leaf = is_leaf c.before.before.before.before.before.before.before.before in
@@ -71,7 +71,7 @@ returns-2 c =
 returns-3 : tie.Need-returns
 returns-3 c =
     let start = c.before.before.before.before.before.before in
-    (siblings-inner start.args.s (tree start) start.args.i _ (sym (c.before.is_leaf.ensures _) ∙ c.if-is_leaf.false), omega arith)
+    (siblings-inner start.args.s (tree start) start.args.i _ (sym (c.is_leaf.ensures _) ∙ c.if-is_leaf.false), omega arith)
 
 pub push_siblings_spec : {M : Type 1} → statement M
 push_siblings_spec = tie.close

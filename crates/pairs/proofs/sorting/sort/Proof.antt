@@ -22,24 +22,24 @@ loop-holds c = (
   omega arith,
   refl,
   refl,
-  sort_start c.before.before.args.costs.now c.before.before.args.numbers.now
-      c.before.before.args.count,
+  sort_start c.args.costs.now c.args.numbers.now
+      c.args.count,
 )
 
 sort-in-requires : tie.Need-sort_in-requires invariant-loop decreases-loop
 sort-in-requires c κs =
     let start = c.before.before.before.before.before.before in
-    let inv = c.before.before.before.loop-i.invariant in (
+    let inv = c.loop-i.invariant in (
       record { floats_in_lem = omega (arith, inv.1, start.requires.floats_in_lem); numbers_in = omega (arith, inv.2, start.requires.numbers_in) },
       omega
-          (arith, inv.0, c.before.before.loop-i-test.true),
+          (arith, inv.0, c.loop-i-test.true),
     )
 
 loop-again : tie.Need-loop-i-preserved invariant-loop decreases-loop
 loop-again c =
-    let more = c.before.before.before.before.before.before.before.loop-i-test in
-    let sort-in = c.before.before.before.before.sort_in in
-    let l = c.before.before.before.before.before.before.before.before.loop-i in let inv = l.invariant in (
+    let more = c.loop-i-test in
+    let sort-in = c.sort_in in
+    let l = c.loop-i in let inv = l.invariant in (
       omega (arith, inv.0),
       sort-in.auto.0 ∙ inv.1,
       sort-in.auto.1.0 ∙ inv.2,
@@ -47,15 +47,15 @@ loop-again c =
     )
 
 same_length : tie.Need-shape_of-costs invariant-loop decreases-loop
-same_length c = c.before.loop-i.invariant.1
+same_length c = c.loop-i.invariant.1
 
 same-length-2 : tie.Need-shape_of-numbers invariant-loop decreases-loop
-same-length-2 c = c.before.loop-i.invariant.2
+same-length-2 c = c.loop-i.invariant.2
 
 returns : tie.Need-returns invariant-loop decreases-loop
 returns c =
     let start = c.before.before.before.before in
-    let l = c.before.loop-i in let z : l.i ≡ 0 = omega (arith, c.loop-i-test.false) in l.invariant.3 ∙ ap
+    let l = c.loop-i in let z : l.i ≡ 0 = omega (arith, c.loop-i-test.false) in l.invariant.3 ∙ ap
     (λ k. sorted_from k (pairs_in start.args.costs.now start.args.numbers.now start.args.count)) z ∙ sorted_end _
 
 pub sort_spec : {M : Type 1} → statement M

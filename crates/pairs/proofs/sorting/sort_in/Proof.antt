@@ -36,54 +36,54 @@ loop-holds c =
 pair-requires-2 : tie.Need-pair-q-requires invariant-loop decreases-loop
 pair-requires-2 c κs =
     let start = c.before.before.before.before.before.before.before.before.before in
-    let inv = c.before.before.before.loop-at.invariant in among (c.before.before.before.loop-at.at + 1) start.requires.0 inv.1 inv.2
-    c.before.before.loop-at-test.true
+    let inv = c.loop-at.invariant in among (c.loop-at.at + 1) start.requires.0 inv.1 inv.2
+    c.loop-at-test.true
 
 put-requires : tie.Need-put-requires invariant-loop decreases-loop
 put-requires c κs =
     let start = c.before.before.before.before.before.before.before.before.before.before.before.before.before.before.before in
-    let loop = c.before.before.before.before.before.before.before.before.before.loop-at in
-    let pair2 = c.before.before.before.before.before.pair-q in
+    let loop = c.loop-at in
+    let pair2 = c.pair-q in
     let inv = loop.invariant in (among loop.at start.requires.0 inv.1 inv.2 inv.0, pair2.ensures.1)
 
 put-requires-2 : tie.Need-put-requires-else-q-p invariant-loop decreases-loop
 put-requires-2 c κs =
     let start = c.before.before.before.before.before.before.before.before.before.before.before.before.before.before.before in
-    let loop = c.before.before.before.before.before.before.before.before.before.loop-at in
+    let loop = c.loop-at in
     let inv = loop.invariant in (among loop.at start.requires.0 inv.1 inv.2 inv.0, inv.3)
 
 same_length : tie.Need-shape_of-costs-else-q-p invariant-loop decreases-loop
 same_length c =
-    let loop = c.before.before.before.before.before.before.before.before.before.before.before.before.before.before.loop-at in
-    let put2 = c.before.before.before.before.put-else-q-p in
+    let loop = c.loop-at in
+    let put2 = c.put-else-q-p in
     put2.auto.0 ∙ loop.invariant.1
 
 same-length-2 : tie.Need-shape_of-numbers-else-q-p invariant-loop decreases-loop
 same-length-2 c =
-    let loop = c.before.before.before.before.before.before.before.before.before.before.before.before.before.before.loop-at in
-    let put2 = c.before.before.before.before.put-else-q-p in
+    let loop = c.loop-at in
+    let put2 = c.put-else-q-p in
     put2.auto.1.0 ∙ loop.invariant.2
 
 returns : tie.Need-returns-else-q-p invariant-loop decreases-loop
 returns c =
     let start = c.before.before.before.before.before.before.before.before.before.before.before.before.before.before.before.before.before.before.before.before in
-    let pair = c.before.before.before.before.before.before.before.before.before.before.before.before.before.before.before.pair-p in
-    let more = c.before.before.before.before.before.before.before.before.before.before.before.before.before.loop-at-test in
-    let pair2 = c.before.before.before.before.before.before.before.before.before.before.pair-q in
-    let test = c.before.before.before.before.before.before.before.if-q-p in
-    let put2 = c.before.before.before.before.put-else-q-p in
-    let l = c.before.before.before.before.before.before.before.before.before.before.before.before.before.before.loop-at in stopped _ _
+    let pair = c.pair-p in
+    let more = c.loop-at-test in
+    let pair2 = c.pair-q in
+    let test = c.if-q-p in
+    let put2 = c.put-else-q-p in
+    let l = c.loop-at in stopped _ _
     start.args.count l.at pair.result pair2.result more.true pair2.ensures.0 test.false put2.ensures ∙ l.invariant.4
 
 loop-again : tie.Need-loop-at-preserved invariant-loop decreases-loop
 loop-again c =
     let start = c.before.before.before.before.before.before.before.before.before.before.before.before.before.before.before.before.before.before.before.before in
-    let pair = c.before.before.before.before.before.before.before.before.before.before.before.before.before.before.before.pair-p in
-    let more = c.before.before.before.before.before.before.before.before.before.before.before.before.before.loop-at-test in
-    let pair2 = c.before.before.before.before.before.before.before.before.before.before.pair-q in
-    let test = c.before.before.before.before.before.before.before.if-q-p in
-    let put = c.before.before.before.before.put in
-    let l = c.before.before.before.before.before.before.before.before.before.before.before.before.before.before.loop-at in let inv = l.invariant in (
+    let pair = c.pair-p in
+    let more = c.loop-at-test in
+    let pair2 = c.pair-q in
+    let test = c.if-q-p in
+    let put = c.put in
+    let l = c.loop-at in let inv = l.invariant in (
       more.true,
       put.auto.0 ∙ inv.1,
       put.auto.1.0 ∙ inv.2,
@@ -94,27 +94,27 @@ loop-again c =
 put-requires-3 : tie.Need-put-requires-2 invariant-loop decreases-loop
 put-requires-3 c κs =
     let start = c.before.before.before.before.before.before.before.before.before in
-    let inv = c.before.before.before.loop-at.invariant in (among c.before.before.before.loop-at.at start.requires.0 inv.1 inv.2 inv.0, inv.3)
+    let inv = c.loop-at.invariant in (among c.loop-at.at start.requires.0 inv.1 inv.2 inv.0, inv.3)
 
 same-length-3 : tie.Need-shape_of-costs invariant-loop decreases-loop
 same-length-3 c =
-    let loop = c.before.before.before.before.before.before.before.before.loop-at in
-    let put3 = c.before.before.before.before.put-2 in
+    let loop = c.loop-at in
+    let put3 = c.put-2 in
     put3.auto.0 ∙ loop.invariant.1
 
 same-length-4 : tie.Need-shape_of-numbers invariant-loop decreases-loop
 same-length-4 c =
-    let loop = c.before.before.before.before.before.before.before.before.loop-at in
-    let put3 = c.before.before.before.before.put-2 in
+    let loop = c.loop-at in
+    let put3 = c.put-2 in
     put3.auto.1.0 ∙ loop.invariant.2
 
 returns-2 : tie.Need-returns invariant-loop decreases-loop
 returns-2 c =
     let start = c.before.before.before.before.before.before.before.before.before.before.before.before.before.before in
-    let pair = c.before.before.before.before.before.before.before.before.before.pair-p in
-    let more = c.before.before.before.before.before.before.before.loop-at-test in
-    let put3 = c.before.before.before.before.put-2 in
-    let l = c.before.before.before.before.before.before.before.before.loop-at in ended _ _ start.args.count l.at pair.result l.invariant.0
+    let pair = c.pair-p in
+    let more = c.loop-at-test in
+    let put3 = c.put-2 in
+    let l = c.loop-at in ended _ _ start.args.count l.at pair.result l.invariant.0
     (omega (arith, more.false)) put3.ensures ∙ l.invariant.4
 
 pub sort_in_spec : {M : Type 1} → statement M

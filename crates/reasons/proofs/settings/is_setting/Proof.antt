@@ -23,36 +23,36 @@ other (suc (suc (suc (suc (suc (suc (suc k))))))) f n₀ n₁ n₂ n₃ n₄ n�
 
 returns : tie.Need-returns-in-0
 unfolding setting_at
-returns c = c.is_size.ensures ∙ ap (λ k. setting_at k c.before.before.before.args.field.now) (sym c.before.in-0.is)
+returns c = c.is_size.ensures ∙ ap (λ k. setting_at k c.args.field.now) (sym c.in-0.is)
 
 returns-2 : tie.Need-returns-in-1
 unfolding setting_at
-returns-2 c = c.is_size-in-1.ensures ∙ ap (λ k. setting_at k c.before.before.before.args.field.now) (sym c.before.in-1.is)
+returns-2 c = c.is_size-in-1.ensures ∙ ap (λ k. setting_at k c.args.field.now) (sym c.in-1.is)
 
 returns-3 : tie.Need-returns-in-2
 unfolding setting_at
-returns-3 c = c.is_size-in-2.ensures ∙ ap (λ k. setting_at k c.before.before.before.args.field.now) (sym c.before.in-2.is)
+returns-3 c = c.is_size-in-2.ensures ∙ ap (λ k. setting_at k c.args.field.now) (sym c.in-2.is)
 
 returns-4 : tie.Need-returns-in-3
 unfolding setting_at
-returns-4 c = c.is_size-in-3.ensures ∙ ap (λ k. setting_at k c.before.before.before.args.field.now) (sym c.before.in-3.is)
+returns-4 c = c.is_size-in-3.ensures ∙ ap (λ k. setting_at k c.args.field.now) (sym c.in-3.is)
 
 returns-5 : tie.Need-returns-in-4
 unfolding setting_at
-returns-5 c = c.is_feature.ensures ∙ ap (λ k. setting_at k c.before.before.before.args.field.now) (sym c.before.in-4.is)
+returns-5 c = c.is_feature.ensures ∙ ap (λ k. setting_at k c.args.field.now) (sym c.in-4.is)
 
 returns-6 : tie.Need-returns-in-5
 unfolding setting_at
-returns-6 c = c.is_distance.ensures ∙ ap (λ k. setting_at k c.before.before.before.args.field.now) (sym c.before.in-5.is)
+returns-6 c = c.is_distance.ensures ∙ ap (λ k. setting_at k c.args.field.now) (sym c.in-5.is)
 
 returns-7 : tie.Need-returns-in-6
 unfolding setting_at
-returns-7 c = c.is_distance-in-6.ensures ∙ ap (λ k. setting_at k c.before.before.before.args.field.now) (sym c.before.in-6.is)
+returns-7 c = c.is_distance-in-6.ensures ∙ ap (λ k. setting_at k c.args.field.now) (sym c.in-6.is)
 
 returns-8 : tie.Need-returns-in_default
 returns-8 c =
-    let a = c.before.before.before.args in
-    let r = c.before.in_default.in_default-own.rest in
+    let a = c.args in
+    let r = c.in_default.in_default-own.rest in
     c.is_float.ensures
     ∙ other a.k a.field.now r.0.0.0.0.0.0.1 r.0.0.0.0.0.1 r.0.0.0.0.1 r.0.0.0.1 r.0.0.1 r.0.1 r.1
 

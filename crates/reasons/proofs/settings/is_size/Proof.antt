@@ -14,17 +14,17 @@ unfolding size_in
 returns c =
     let start = c.before.before.before.before in
     let a = start.args in
-    let e = number_none _ (sym c.before.before.decimal.ensures ∙ c.in_default.is) in
+    let e = number_none _ (sym c.decimal.ensures ∙ c.in_default.is) in
     ap (size_in a.least a.most) (sym e) ∙ size_few a.least a.most start.requires _
 
 -- the number that is read
-is : (c : tie.In-Is-2) → let a = c.before.before.before.before.args in
+is : (c : tie.In-Is-2) → let a = c.args in
     within a.least a.most c.in-Is.n-1 ≡ size_in a.least a.most (decimal a.field.now)
 unfolding size_in
 is c =
     let start = c.before.before.before.before in
     let a = start.args in
-    let e = number_some _ _ (sym c.before.before.decimal.ensures ∙ c.in-Is.is) in
+    let e = number_some _ _ (sym c.decimal.ensures ∙ c.in-Is.is) in
     ap (size_in a.least a.most) (sym e) ∙ size_few a.least a.most start.requires _
 
 returns-2 : tie.Need-returns-then-n-least

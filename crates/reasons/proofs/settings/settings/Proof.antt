@@ -21,26 +21,26 @@ loop-holds : tie.Need-loop-k-init invariant-loop decreases-loop
 loop-holds c = (search rules, refl)
 
 -- whether field k is as asked
-is : (c : tie.After-is_setting invariant-loop decreases-loop) → let loop = c.before.before.before.loop-k in
-    setting_at loop.k (get_or (fields_of c.before.before.before.before.before.args.line.now) loop.k []) ≡ c.is_setting.result
-is c = sym (c.is_setting.ensures ∙ ap (λ f. setting_at c.before.before.before.loop-k.k f) c.before.field.ensures)
+is : (c : tie.After-is_setting invariant-loop decreases-loop) → let loop = c.loop-k in
+    setting_at loop.k (get_or (fields_of c.args.line.now) loop.k []) ≡ c.is_setting.result
+is c = sym (c.is_setting.ensures ∙ ap (λ f. setting_at c.loop-k.k f) c.field.ensures)
 
 returns : tie.Need-returns-then-not-is_setting invariant-loop decreases-loop
 returns c =
-    let loop = c.before.before.before.before.loop-k in
-    let pre = c.before.before.before.before.before.before.requires in
+    let loop = c.loop-k in
+    let pre = c.requires in
     sym (wrong_stop setting_at _ loop.k (omega (arith, pre)) (is c.before ∙ not-true _ c.if-not-is_setting.true-raw)) ∙ loop.invariant.1
 
 loop-again : tie.Need-loop-k-preserved invariant-loop decreases-loop
 loop-again c =
-    let loop = c.before.before.before.before.loop-k in
-    let pre = c.before.before.before.before.before.before.requires in
+    let loop = c.loop-k in
+    let pre = c.requires in
     (omega arith, wrong_more setting_at _ loop.k (omega (arith, pre)) (is c.before ∙ not-false _ c.if-not-is_setting.false-raw) ∙ loop.invariant.1)
 
 returns-2 : tie.Need-returns invariant-loop decreases-loop
 returns-2 c =
-    let loop = c.before.loop-k in
-    let pre = c.before.before.before.requires in
+    let loop = c.loop-k in
+    let pre = c.requires in
     sym (wrong_end setting_at _ loop.k (omega (arith, pre))) ∙ loop.invariant.1
 
 pub settings_spec : {M : Type 1} → statement M

@@ -20,22 +20,22 @@ loop-holds c = λ fs. refl
 
 returns : tie.Need-returns-then-is_hollow invariant-loop decreases-loop
 returns c =
-    let a = c.before.before.before.before.before.before.args in
-    let loop = c.before.before.before.before.loop-i in
-    λ fs. hollow_here a.s a.n fs a.links.now loop.i c.before.before.loop-i-test.true (c.before.is_hollow.ensures fs) c.if-is_hollow.true
+    let a = c.args in
+    let loop = c.loop-i in
+    λ fs. hollow_here a.s a.n fs a.links.now loop.i c.loop-i-test.true (c.is_hollow.ensures fs) c.if-is_hollow.true
     ∙ loop.invariant fs
 
 loop-again : tie.Need-loop-i-preserved invariant-loop decreases-loop
 loop-again c =
-    let a = c.before.before.before.before.before.before.args in
-    let loop = c.before.before.before.before.loop-i in
-    λ fs. hollow-on a.s a.n fs a.links.now loop.i c.before.before.loop-i-test.true (c.before.is_hollow.ensures fs) c.if-is_hollow.false
+    let a = c.args in
+    let loop = c.loop-i in
+    λ fs. hollow-on a.s a.n fs a.links.now loop.i c.loop-i-test.true (c.is_hollow.ensures fs) c.if-is_hollow.false
     ∙ loop.invariant fs
 
 returns-2 : tie.Need-returns invariant-loop decreases-loop
 returns-2 c =
-    let a = c.before.before.before.before.args in
-    let loop = c.before.before.loop-i in
+    let a = c.args in
+    let loop = c.loop-i in
     λ fs. hollow_end a.s a.n fs a.links.now loop.i c.loop-i-test.false ∙ loop.invariant fs
 
 pub any_hollow_spec : {M : Type 1} → statement M

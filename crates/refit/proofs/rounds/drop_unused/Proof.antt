@@ -21,7 +21,7 @@ enough-requires c κs =
     let start = start dropped in
     let a = start.args in
     let drop = dropped.drop_merged-m in
-    rw drop.auto.1.1.1.0 (links_kept a.s a.n drop.result a.numbers.now drop.ensures.0 start.requires.floats.1)
+    rw drop.auto.1.1.1.0 (links_kept a.s a.n drop.result a.numbers.now drop.ensures.0 start.requires.0.1)
 
 returns : tie.Need-returns-then-enough
 returns c =
@@ -30,10 +30,10 @@ returns c =
     let a = start.args in
     let drop = dropped.drop_merged-m in (
       (
-        floats-kept a.s a.n drop.result a.numbers.now drop.ensures.0 start.requires.floats.0,
-        links_kept a.s a.n drop.result a.numbers.now drop.ensures.0 start.requires.floats.1,
+        floats-kept a.s a.n drop.result a.numbers.now drop.ensures.0 start.requires.0.0,
+        links_kept a.s a.n drop.result a.numbers.now drop.ensures.0 start.requires.0.1,
       ),
-      stays a.s a.done drop.ensures.1 (c.before.enough.ensures _) c.if-enough.true,
+      stays a.s a.done drop.ensures.1 (c.enough.ensures _) c.if-enough.true,
     )
 
 reinsert-requires : tie.Need-reinsert-counters-requires
@@ -42,13 +42,13 @@ reinsert-requires c κs =
     let start = start dropped in
     let a = start.args in
     let drop = dropped.drop_merged-m in
-    let numbers = start.requires.floats.2.numbers_in in
+    let numbers = start.requires.0.2.numbers_in in
     let kept = drop.kept.1.1.1.1.0 in (
       (
-        rw drop.kept.1.1.0 (floats-kept a.s a.n drop.result a.numbers.now drop.ensures.0 start.requires.floats.0),
-        rw drop.kept.1.1.1.0 (links_kept a.s a.n drop.result a.numbers.now drop.ensures.0 start.requires.floats.1),
+        rw drop.kept.1.1.0 (floats-kept a.s a.n drop.result a.numbers.now drop.ensures.0 start.requires.0.0),
+        rw drop.kept.1.1.1.0 (links_kept a.s a.n drop.result a.numbers.now drop.ensures.0 start.requires.0.1),
       ),
-      ((start.requires.floats.2.floats_in_lem, omega arith), subst (Reinsertable a.s) (sym drop.ensures.1) start.requires.leaves_in.1),
+      ((start.requires.0.2.floats_in_lem, omega arith), subst (Reinsertable a.s) (sym drop.ensures.1) start.requires.1.1),
     )
 
 returns-2 : tie.Need-returns
@@ -60,7 +60,7 @@ returns-2 c =
     let drop = dropped.drop_merged-m in
     let new = again.reinsert-counters in (
       (rw drop.kept.1.1.0 at new.ensures.0.0, rw drop.kept.1.1.1.0 at new.ensures.0.1),
-      placed a.s a.done drop.ensures.1 (test.before.enough.ensures _) test.if-enough.false new.ensures.1,
+      placed a.s a.done drop.ensures.1 (test.enough.ensures _) test.if-enough.false new.ensures.1,
     )
 
 pub drop_unused_spec : {M : Type 1} → statement M

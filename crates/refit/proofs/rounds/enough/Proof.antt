@@ -10,14 +10,14 @@ use Rattle.refit.proofs.rounds.enough.Tie as tie
 returns : tie.Need-returns-then-any_hollow
 unfolding enough
 returns c =
-    let a = c.before.before.before.args in
-    λ fs. ap (λ b. not b && leb 1 a.done) (sym c.if-any_hollow.true ∙ c.before.any_hollow.ensures fs)
+    let a = c.args in
+    λ fs. ap (λ b. not b && leb 1 a.done) (sym c.if-any_hollow.true ∙ c.any_hollow.ensures fs)
 
 returns-2 : tie.Need-returns
 unfolding enough
 returns-2 c =
-    let a = c.before.before.before.args in
-    λ fs. ap (λ b. not b && leb 1 a.done) (sym c.if-any_hollow.false ∙ c.before.any_hollow.ensures fs)
+    let a = c.args in
+    λ fs. ap (λ b. not b && leb 1 a.done) (sym c.if-any_hollow.false ∙ c.any_hollow.ensures fs)
 
 pub enough_spec : {M : Type 1} → statement M
 enough_spec = tie.close (tie.spec (λ c κs. search rules) returns returns-2)

@@ -21,7 +21,7 @@ returns c =
     let anew = c.before.before.before.before.before.before.before in
     let start = start anew in
     let a = start.args in
-    ((start.requires.floats.0, start.requires.floats.1), round_all a.s _ a.done (tree start) anew.reaccumulate.ensures c.if-reaccumulate.true)
+    ((start.requires.0.0, start.requires.0.1), round_all a.s _ a.done (tree start) anew.reaccumulate.ensures c.if-reaccumulate.true)
 
 drop-unused-requires : tie.Need-drop_unused-requires
 drop-unused-requires c κs =
@@ -30,15 +30,15 @@ drop-unused-requires c κs =
     let a = start.args in
     let new = anew.reaccumulate in
     let entries = count_entries_lem a.s a.n a.floats.now a.links.now in
-    let few = start.requires.floats.0.entries_in in (
+    let few = start.requires.0.0.entries_in in (
       (
-        rw new.auto.1.1.0 start.requires.floats.0,
-        start.requires.floats.1,
-        rw (new.auto.1.1.1.1.0, new.auto.1.1.1.1.1.0) start.requires.floats.2,
+        rw new.auto.1.1.0 start.requires.0.0,
+        start.requires.0.1,
+        rw (new.auto.1.1.1.1.0, new.auto.1.1.1.1.1.0) start.requires.0.2,
       ),
       (
-        poured_leaves a.s a.n a.floats.now _ a.links.now start.requires.dim_in_bounds.1.tree,
-        left-again a.s a.count a.rows.now (tree start) start.requires.dim_in_bounds.1 (omega arith) new.ensures,
+        poured_leaves a.s a.n a.floats.now _ a.links.now start.requires.1.1.tree,
+        left-again a.s a.count a.rows.now (tree start) start.requires.1.1 (omega arith) new.ensures,
       ),
     )
 
@@ -49,7 +49,7 @@ returns-2 c =
     let anew = test.before.before.before.before.before.before.before in
     let start = start anew in
     let a = start.args in (
-      (rw anew.reaccumulate.auto.1.1.0 at drop.drop_unused.ensures.floats_2.0, drop.drop_unused.ensures.floats_2.1),
+      (rw anew.reaccumulate.auto.floats at drop.drop_unused.ensures.floats_2.0, drop.drop_unused.ensures.floats_2.1),
       round_some a.s _ a.done (tree start) anew.reaccumulate.ensures test.if-reaccumulate.false drop.drop_unused.ensures.last_after,
     )
 

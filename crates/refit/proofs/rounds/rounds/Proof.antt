@@ -34,13 +34,13 @@ loop-holds : tie.Need-loop-done-init invariant-loop decreases-loop
 loop-holds c =
     let start = c.before.before.before.before.before in
     let a = start.args in (
-      start.requires.floats.0,
-      start.requires.floats.1,
+      start.requires.0.0,
+      start.requires.0.1,
       refl,
       refl,
       refl,
       refl,
-      rounds_start a.s a.count a.rows.now a.n.entries (tree start) start.requires.dim_in_bounds.1,
+      rounds_start a.s a.count a.rows.now a.n.entries (tree start) start.requires.1.1,
     )
 
 round-requires : tie.Need-round-turn-requires invariant-loop decreases-loop
@@ -48,7 +48,7 @@ round-requires c κs =
     let at = c.before.before.before.before.before.before in
     let start = start at in
     let inv = at.loop-done.invariant in
-    ((inv.0, inv.1, rw (inv.4, inv.5) start.requires.floats.2), (start.requires.dim_in_bounds.0, inv.6.tree))
+    ((inv.0, inv.1, rw (inv.4, inv.5) start.requires.0.2), (start.requires.1.0, inv.6.tree))
 
 returns : tie.Need-returns-then-turn invariant-loop decreases-loop
 returns c =
@@ -58,7 +58,7 @@ returns c =
     let a = start.args in
     let inv = at.loop-done.inv in
     let new = round.round-turn in
-    let more = round.before.before.before.before.before.loop-done-test.true in (
+    let more = round.loop-done-test.true in (
       (rw inv.2 at new.ensures.0.0, rw inv.3 at new.ensures.0.1),
       rounds_last a.s a.count a.rows.now a.n.entries (tree start) at.loop-done.done _ inv.6 more new.ensures.1 c.if-turn.true,
     )
@@ -71,28 +71,28 @@ loop-again c =
     let a = start.args in
     let inv = at.loop-done.inv in
     let new = round.round-turn in
-    let more = round.before.before.before.before.before.loop-done-test.true in (
+    let more = round.loop-done-test.true in (
       rw new.auto.1.1.0 new.ensures.0.0,
       rw new.auto.1.1.1.0 new.ensures.0.1,
       new.auto.1.1.0 ∙ inv.2,
       new.auto.1.1.1.0 ∙ inv.3,
       new.auto.1.1.1.1.0 ∙ inv.4,
       new.auto.1.1.1.1.1.0 ∙ inv.5,
-      rounds_on a.s a.count a.rows.now a.n.entries (tree start) at.loop-done.done _ inv.6 more new.ensures.1 start.requires.floats.0.sized
+      rounds_on a.s a.count a.rows.now a.n.entries (tree start) at.loop-done.done _ inv.6 more new.ensures.1 start.requires.0.0.sized
           c.if-turn.false,
     )
 
 same-length-5 : tie.Need-shape_of-floats invariant-loop decreases-loop
-same-length-5 c = c.before.before.loop-done.invariant.2
+same-length-5 c = c.loop-done.invariant.2
 
 same-length-6 : tie.Need-shape_of-links invariant-loop decreases-loop
-same-length-6 c = c.before.before.loop-done.invariant.3
+same-length-6 c = c.loop-done.invariant.3
 
 same-length-7 : tie.Need-shape_of-scratch invariant-loop decreases-loop
-same-length-7 c = c.before.before.loop-done.invariant.4
+same-length-7 c = c.loop-done.invariant.4
 
 same-length-8 : tie.Need-shape_of-numbers invariant-loop decreases-loop
-same-length-8 c = c.before.before.loop-done.invariant.5
+same-length-8 c = c.loop-done.invariant.5
 
 returns-2 : tie.Need-returns invariant-loop decreases-loop
 returns-2 c =

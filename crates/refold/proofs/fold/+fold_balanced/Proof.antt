@@ -42,19 +42,19 @@ calls t = (
 
 -- the list has halves
 halves : (t : ℕ) (c : fold-balanced-lts.Else1 (calls t) (fold-balanced-at t) fold-balanced.Post) → Halved
-    (length c.before.before.before.before.args.list.now)
+    (length c.args.list.now)
 halves t c =
     let start = c.before.before.before.before in
     halved (length start.args.list.now) start.requires.1.0.2 c.if1.false
 
 -- the slot behind the front half's is a number of its word
 place-fits : (t : ℕ) (c : fold-balanced-lts.After-slice-known (calls t) (fold-balanced-at t) fold-balanced.Post)
-    → Fits w64 (c.before.before.before.args.at + length c.before.before.before.args.list.now / 2)
+    → Fits w64 (c.args.at + length c.args.list.now / 2)
 place-fits t c =
-    let few : c.before.before.before.args.at + length c.before.before.before.args.list.now ≤ length
-    c.before.before.before.args.scratch.now = slots_small c.before.before.before.args.s _ _ c.before.before.before.requires.1.1 in
-    let h : c.before.before.before.args.at + length c.before.before.before.args.list.now / 2 ≤ length
-    c.before.before.before.args.scratch.now = omega arith in
+    let few : c.args.at + length c.args.list.now ≤ length
+    c.args.scratch.now = slots_small c.args.s _ _ c.requires.1.1 in
+    let h : c.args.at + length c.args.list.now / 2 ≤ length
+    c.args.scratch.now = omega arith in
     search rules
 
 shared-slice-read-copy : (t : ℕ) → fold-balanced-lts.Need-shared-slice-read-copy (calls t) (fold-balanced-at t) fold-balanced.Post
@@ -75,16 +75,16 @@ copy-requires t c κs =
     )
 
 same_length : (t : ℕ) → fold-balanced-lts.Need-same-length (calls t) (fold-balanced-at t) fold-balanced.Post
-same_length t c = c.before.before.copy.auto.1.1.1.1.1.0
+same_length t c = c.copy.auto.1.1.1.1.1.0
 
 returns : (t : ℕ) → fold-balanced-lts.Need-returns (calls t) (fold-balanced-at t) fold-balanced.Post
 returns t c =
     let start = c.before.before.before.before.before.before.before.before.before in
-    let test = c.before.before.before.before.before.if1 in
+    let test = c.if1 in
     λ ls.
     folded_as (fold-one start.args.s (child (tree_of start.args.s start.args.n start.args.floats.now ls) start.args.leaf)
     start.args.list.now
-    test.true) (c.before.before.copy.ensures ls)
+    test.true) (c.copy.ensures ls)
 
 slice-aggregate-fold-balanced : (t : ℕ) → fold-balanced-lts.Need-slice-aggregate-fold-balanced (calls t) (fold-balanced-at t) fold-balanced.Post
 slice-aggregate-fold-balanced t c =
@@ -133,7 +133,7 @@ add-fold-balanced t c = place-fits t (c.before.before.before.before.before.befor
 fold-balanced-requires-2 : (t : ℕ) → fold-balanced-lts.Need-fold-balanced-requires-2 (calls t) (fold-balanced-at t) fold-balanced.Post
 fold-balanced-requires-2 t c κs =
     let start = c.before.before.before.before.before.before.before.before.before.before.before in
-    let fold-balanced = c.before.before.before.before.fold-balanced in
+    let fold-balanced = c.fold-balanced in
     let list = start.args.list.now in
     let h = length list / 2 in
     let two = halves t (c.before.before.before.before.before.before.before) in
@@ -158,11 +158,11 @@ add-join t c = place-fits t (c.before.before.before.before.before.before.before.
 join-requires : (t : ℕ) → fold-balanced-lts.Need-join-requires (calls t) (fold-balanced-at t) fold-balanced.Post
 join-requires t c κs =
     let start = c.before.before.before.before.before.before.before.before.before.before.before.before.before.before.before in
-    let fold-balanced = c.before.before.before.before.before.before.before.before.fold-balanced in
+    let fold-balanced = c.fold-balanced in
     let list = start.args.list.now in
     let two = halves t (c.before.before.before.before.before.before.before.before.before.before.before) in
-    let long : length c.before.before.before.fold-balanced2.new.1.1.1.1.1.0 ≡ length start.args.scratch.now =
-    c.before.before.before.fold-balanced2.auto.1.1.1.1.1.0 ∙ fold-balanced.auto.1.1.1.1.1.0 in (
+    let long : length c.fold-balanced2.new.1.1.1.1.1.0 ≡ length start.args.scratch.now =
+    c.fold-balanced2.auto.1.1.1.1.1.0 ∙ fold-balanced.auto.1.1.1.1.1.0 in (
       slot_there start.args.s start.requires.1.0.0.sized start.args.at (length list) start.args.at _ (omega (arith, two.fewer))
           (rw long start.requires.1.1),
       slot_there start.args.s start.requires.1.0.0.sized start.args.at (length list) (start.args.at + length list / 2) _
@@ -172,16 +172,16 @@ join-requires t c κs =
 
 same-length-2 : (t : ℕ) → fold-balanced-lts.Need-same-length-2 (calls t) (fold-balanced-at t) fold-balanced.Post
 same-length-2 t c =
-    let fold-balanced = c.before.before.before.before.before.before.before.before.before.before.before.fold-balanced in
-    let fold-balanced2 = c.before.before.before.before.before.before.fold-balanced2 in
-    c.before.before.join.auto.1.0 ∙ fold-balanced2.auto.1.1.1.1.1.0 ∙ fold-balanced.auto.1.1.1.1.1.0
+    let fold-balanced = c.fold-balanced in
+    let fold-balanced2 = c.fold-balanced2 in
+    c.join.auto.1.0 ∙ fold-balanced2.auto.1.1.1.1.1.0 ∙ fold-balanced.auto.1.1.1.1.1.0
 
 returns-2 : (t : ℕ) → fold-balanced-lts.Need-returns-2 (calls t) (fold-balanced-at t) fold-balanced.Post
 returns-2 t c =
     let start = c.before.before.before.before.before.before.before.before.before.before.before.before.before.before.before.before.before.before in
-    let test = c.before.before.before.before.before.before.before.before.before.before.before.before.before.before.if1 in
-    let fold-balanced = c.before.before.before.before.before.before.before.before.before.before.before.fold-balanced in
-    let fold-balanced2 = c.before.before.before.before.before.before.fold-balanced2 in
+    let test = c.if1 in
+    let fold-balanced = c.fold-balanced in
+    let fold-balanced2 = c.fold-balanced2 in
     λ ls.
     let list = start.args.list.now in
     let h = length list / 2 in
@@ -191,7 +191,7 @@ returns-2 t c =
     start.requires.1.0.2
     test.false refl back)
     (halves_folded (halves t (c.before.before.before.before.before.before.before.before.before.before.before.before.before.before)).some
-    (fold-balanced.ensures ls) (fold-balanced2.ensures ls) c.before.before.join.ensures)
+    (fold-balanced.ensures ls) (fold-balanced2.ensures ls) c.join.ensures)
 
 pub +fold-balanced-spec : {M : Type 1} → statement M
 +fold-balanced-spec = close μ-fold-balanced

@@ -12,15 +12,15 @@ store-requires : tie.Need-store-requires
 store-requires c κs =
     let start = c.before.before.before.before in (
       start.requires.2,
-      subst (Shaped start.args.s.feature start.args.s.dim) (sym (c.before.summary-x.ensures []))
+      subst (Shaped start.args.s.feature start.args.s.dim) (sym (c.summary-x.ensures []))
           (child_shaped start.args.s start.requires.0.sized start.args.n start.args.floats.now [] start.args.c start.args.leaf
           start.requires.1),
     )
 
 returns : tie.Need-returns
 returns c =
-    let summary = c.before.before.before.before.summary-x in
-    λ ls. folded_as (summary.ensures ls) (stored_folded (λ _. summary.result) c.before.before.store.ensures)
+    let summary = c.summary-x in
+    λ ls. folded_as (summary.ensures ls) (stored_folded (λ _. summary.result) c.store.ensures)
 
 pub copy_spec : {M : Type 1} → statement M
 copy_spec = tie.close (tie.spec (λ c κs. search rules) store-requires (λ c. search rules) returns)

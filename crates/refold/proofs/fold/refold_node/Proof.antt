@@ -20,51 +20,51 @@ use Rattle.refold.proofs.fold.refold_node.Tie as tie
 fold-balanced-requires : tie.Need-fold_balanced-requires
 fold-balanced-requires c κs =
     let start = c.before.before.before.before.before.before.before in
-    let (gs, u) = start.requires.floats.2 in
+    let (gs, u) = start.requires.0.2 in
     let s = start.args.s in
     let n = start.args.n in
     let ls = start.args.links.now in
     let i = start.args.i in
-    let own = c.before.before.list-list.ensures gs in
-    let few = list_few s (tree_of s n gs ls) u i (rw (count_nodes_lem s n gs ls) start.requires.floats.3) in (
+    let own = c.list-list.ensures gs in
+    let few = list_few s (tree_of s n gs ls) u i (rw (count_nodes_lem s n gs ls) start.requires.0.3) in (
       (
-        start.requires.floats.0,
-        subst (ChildrenIn n c.before.before.before.is_leaf-leaf.result) (sym own)
-            (frame_children s n gs ls u.framed i start.requires.floats.3 c.before.before.before.is_leaf-leaf.result
-            (sym (c.before.before.before.is_leaf-leaf.ensures gs))),
-        subst (λ l. 0 < length l) (sym (c.before.before.list-list.ensures start.args.floats.now)) start.requires.list_nonzero.0,
+        start.requires.0.0,
+        subst (ChildrenIn n c.is_leaf-leaf.result) (sym own)
+            (frame_children s n gs ls u.framed i start.requires.0.3 c.is_leaf-leaf.result
+            (sym (c.is_leaf-leaf.ensures gs))),
+        subst (λ l. 0 < length l) (sym (c.list-list.ensures start.args.floats.now)) start.requires.1.0,
       ),
-      list_room s (length c.before.before.list-list.result.now) _ (subst (λ l. length l ≤ entry_cap s) (sym own) few) start.requires.list_nonzero.1,
+      list_room s (length c.list-list.result.now) _ (subst (λ l. length l ≤ entry_cap s) (sym own) few) start.requires.1.1,
     )
 
 load-requires : tie.Need-load-c-requires
 load-requires c κs =
     let start = c.before.before.before.before.before.before.before.before.before.before.before in
     let s = start.args.s in
-    first_slot s start.requires.floats.0.sized _ (rw c.before.before.before.fold_balanced.auto.1.1.1.1.1.0 start.requires.list_nonzero.1)
+    first_slot s start.requires.0.0.sized _ (rw c.fold_balanced.auto.scratch start.requires.1.1)
 
 put-requires : tie.Need-put-requires
 put-requires c κs =
     let start = c.before.before.before.before.before.before.before.before.before.before.before.before.before in (
-      start.requires.floats.0,
-      start.requires.floats.3,
-      subst (Shaped start.args.s.feature start.args.s.dim) (sym c.before.load-c.ensures)
-          (slot_shaped start.args.s start.requires.floats.0.sized _ 0),
+      start.requires.0.0,
+      start.requires.0.3,
+      subst (Shaped start.args.s.feature start.args.s.dim) (sym c.load-c.ensures)
+          (slot_shaped start.args.s start.requires.0.0.sized _ 0),
     )
 
 returns : tie.Need-returns
 returns c =
     let start = c.before.before.before.before.before.before.before.before.before.before.before.before.before.before.before.before in
-    let is_leaf = c.before.before.before.before.before.before.before.before.before.before.before.before.is_leaf-leaf in
-    let list = c.before.before.before.before.before.before.before.before.before.before.before.list-list in
-    let fold-balanced = c.before.before.before.before.before.before.before.before.fold_balanced in
-    let load = c.before.before.before.before.load-c in
+    let is_leaf = c.is_leaf-leaf in
+    let list = c.list-list in
+    let fold-balanced = c.fold_balanced in
+    let load = c.load-c in
     let s = start.args.s in
     let fs = start.args.floats.now in
     let ls = start.args.links.now in
     let i = start.args.i in
     let t = tree_of s start.args.n fs ls in
-    c.before.before.put.ensures ls
+    c.put.ensures ls
     ∙ one-is s t i load.result
     (load.ensures ∙ (fold-balanced.ensures ls).here
     ∙ ap₂ (λ b l. fold_balanced s (length l) (map (child t b) l)) (is_leaf.ensures fs) (list.ensures fs))

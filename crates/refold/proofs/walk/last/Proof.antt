@@ -25,23 +25,23 @@ decreases-loop s n links i at₀ left₀ at left = left
 
 -- the node is no leaf, and so its list, which was read, is not empty and names nodes
 inner : (c : tie.After-list-list invariant-loop decreases-loop) (fs : List Float)
-    → (node_at (tree_of c.before.before.before.before.before.before.args.s c.before.before.before.before.before.before.args.n fs
-    c.before.before.before.before.before.before.args.links.now) c.before.before.before.before.loop-left.at).leaf ≡ false
-inner c fs = sym (c.before.before.is_leaf.ensures fs) ∙ c.before.if-is_leaf.false
+    → (node_at (tree_of c.args.s c.args.n fs
+    c.args.links.now) c.loop-left.at).leaf ≡ false
+inner c fs = sym (c.is_leaf.ensures fs) ∙ c.if-is_leaf.false
 
 some : (c : tie.After-list-list invariant-loop decreases-loop) → 0 < length c.list.result.now
 some c =
     let start = c.before.before.before.before.before.before in
-    let loop = c.before.before.before.before.loop-left in
+    let loop = c.loop-left in
     let (fs, u) = start.requires.1 in
     subst (λ l. 0 < length l) (sym (c.list.ensures fs))
     (u.inners loop.at (rw (count_nodes_lem start.args.s start.args.n fs start.args.links.now) loop.invariant.0) (inner c fs))
 
 kid_in : (c : tie.After-list-list invariant-loop decreases-loop) → get_or c.list.result.now (length c.list.result.now - 1) 0 <
-    c.before.before.before.before.before.before.args.n.nodes
+    c.args.n.nodes
 kid_in c =
     let start = c.before.before.before.before.before.before in
-    let loop = c.before.before.before.before.loop-left in
+    let loop = c.loop-left in
     let (fs, u) = start.requires.1 in
     node_listed start.args.n _
     (subst (ChildrenIn start.args.n false) (sym (c.list.ensures fs))
@@ -49,20 +49,20 @@ kid_in c =
     (length c.list.result.now - 1) (omega (arith, some c))
 
 loop-holds : tie.Need-loop-left-init invariant-loop decreases-loop
-loop-holds c = (c.before.requires.2, λ fs. refl)
+loop-holds c = (c.requires.2, λ fs. refl)
 
 is-leaf-requires : tie.Need-is_leaf-requires invariant-loop decreases-loop
-is-leaf-requires c κs = (c.before.before.before.requires.0, c.before.loop-left.invariant.0)
+is-leaf-requires c κs = (c.requires.0, c.loop-left.invariant.0)
 
 returns : tie.Need-returns-then-is_leaf invariant-loop decreases-loop
 returns c = λ fs. sym
-    (last_here _ c.before.before.before.loop-left.left c.before.before.before.loop-left.at (sym (c.before.is_leaf.ensures fs) ∙ c.if-is_leaf.true)) ∙
-    c.before.before.before.loop-left.invariant.1 fs
+    (last_here _ c.loop-left.left c.loop-left.at (sym (c.is_leaf.ensures fs) ∙ c.if-is_leaf.true)) ∙
+    c.loop-left.invariant.1 fs
 
 list-requires : tie.Need-list-list-requires invariant-loop decreases-loop
 list-requires c κs =
     let start = c.before.before.before.before.before in
-    (start.requires.0, c.before.before.before.loop-left.invariant.0)
+    (start.requires.0, c.loop-left.invariant.0)
 
 sub_at : tie.Need-overflow_sub-at invariant-loop decreases-loop
 sub_at c = omega (arith, some c)
@@ -71,21 +71,21 @@ shared-slice-read-at : tie.Need-bounds-list-list invariant-loop decreases-loop
 shared-slice-read-at c = omega (arith, some c.before)
 
 cast-at : tie.Need-overflow_cast-at invariant-loop decreases-loop
-cast-at c = omega (arith, c.shared_slice_known-in-loop-left-1.given (length c.before.list-list.result.now - 1))
+cast-at c = omega (arith, c.shared_slice_known-in-loop-left-1.given (length c.list-list.result.now - 1))
 
 loop-again : tie.Need-loop-left-preserved invariant-loop decreases-loop
 loop-again c =
     let start = c.before.before.before.before.before.before.before in
-    let loop = c.before.before.before.before.before.loop-left in
-    let more = c.before.before.before.before.loop-left-test in (
+    let loop = c.loop-left in
+    let more = c.loop-left-test in (
       kid_in c.before,
       λ fs. ap (λ l. last_under (tree_of start.args.s start.args.n fs start.args.links.now) (loop.left - 1) (get_or l (length l - 1) 0))
-          (c.before.list-list.ensures fs)
+          (c.list-list.ensures fs)
           ∙ sym (last_on _ loop.left loop.at more.true (inner c.before fs)) ∙ loop.invariant.1 fs,
     )
 
 returns-2 : tie.Need-returns invariant-loop decreases-loop
-returns-2 c = λ fs. sym (last_none _ c.before.loop-left.left c.before.loop-left.at (omega (arith, c.loop-left-test.false))) ∙ c.before.loop-left.invariant.1 fs
+returns-2 c = λ fs. sym (last_none _ c.loop-left.left c.loop-left.at (omega (arith, c.loop-left-test.false))) ∙ c.loop-left.invariant.1 fs
 
 pub last_spec : {M : Type 1} → statement M
 last_spec = tie.close

@@ -18,26 +18,26 @@ loop-holds : tie.Need-loop-k-init invariant-loop decreases-loop
 loop-holds c = c.requires
 
 mul-if1 : tie.Need-offset_bounds-list-k invariant-loop decreases-loop
-mul-if1 c = let h : c.loop-k.k < length c.before.args.list.now = place_in _ c.loop-k.k c.before.args.c c.loop-k.invariant in search rules
+mul-if1 c = let h : c.loop-k.k < length c.args.list.now = place_in _ c.loop-k.k c.args.c c.loop-k.invariant in search rules
 
 shared-slice-read-if1 : tie.Need-bounds-list-k invariant-loop decreases-loop
-shared-slice-read-if1 c = place_in _ c.before.loop-k.k c.before.before.args.c c.before.loop-k.invariant
+shared-slice-read-if1 c = place_in _ c.loop-k.k c.args.c c.loop-k.invariant
 
 cast-if1 : tie.Need-overflow_cast-list invariant-loop decreases-loop
-cast-if1 c = omega (arith, c.shared_slice_known-1.given c.before.loop-k.k)
+cast-if1 c = omega (arith, c.shared_slice_known-1.given c.loop-k.k)
 
 add-k : tie.Need-overflow_add-k invariant-loop decreases-loop
-add-k c = let h : c.before.before.loop-k.k < length c.before.before.before.args.list.now = place_in _ c.before.before.loop-k.k
-    c.before.before.before.args.c c.before.before.loop-k.invariant in search rules
+add-k c = let h : c.loop-k.k < length c.args.list.now = place_in _ c.loop-k.k
+    c.args.c c.loop-k.invariant in search rules
 
 loop-less : tie.Need-loop-k-smaller invariant-loop decreases-loop
-loop-less c = omega (arith, place_in _ c.before.before.loop-k.k c.before.before.before.args.c c.before.before.loop-k.invariant)
+loop-less c = omega (arith, place_in _ c.loop-k.k c.args.c c.loop-k.invariant)
 
 loop-again : tie.Need-loop-k-preserved invariant-loop decreases-loop
-loop-again c = place_turn _ c.before.before.loop-k.k c.before.before.before.args.c c.before.before.loop-k.invariant c.loop-k-test.true
+loop-again c = place_turn _ c.loop-k.k c.args.c c.loop-k.invariant c.loop-k-test.true
 
 returns : tie.Need-returns invariant-loop decreases-loop
-returns c = (place_in _ c.before.before.loop-k.k c.before.before.before.args.c c.before.before.loop-k.invariant, c.loop-k-test.false)
+returns c = (place_in _ c.loop-k.k c.args.c c.loop-k.invariant, c.loop-k-test.false)
 
 pub place_spec : {M : Type 1} → statement M
 place_spec = tie.close (tie.spec invariant-loop decreases-loop loop-holds mul-if1 shared-slice-read-if1 cast-if1 add-k loop-less loop-again returns)

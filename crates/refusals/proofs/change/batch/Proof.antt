@@ -20,7 +20,7 @@ abbrev start : tie.In-Accepted → tie.Start
 start c = c.before.before.before.before.before.before.before.before
 
 accepts : (c : tie.In-Accepted) → answer_of (before_full (start c).args.h (lent (start c)) (start c).args.rows.now) ≡ Accepted
-accepts c = sym c.before.before.rows_asked-a.ensures ∙ c.in-Accepted.is
+accepts c = sym c.rows_asked-a.ensures ∙ c.in-Accepted.is
 
 ready : (c : tie.In-Accepted) → Ready (start c).args.h (lent (start c))
 ready c = rows_grants _ _ _ (accepts c)
@@ -28,7 +28,7 @@ ready c = rows_grants _ _ _ (accepts c)
 returns : tie.Need-returns-in_default
 returns c =
     let start = c.before.before.before.before.before.before.before.before in
-    let asked = c.before.before.rows_asked-a in
+    let asked = c.rows_asked-a in
     asked.ensures ∙ answer_first _ _ (sym asked.ensures ∙ c.in_default.is)
     ∙ ap answer_of (batch_parts start.args.h (lent start) start.args.rows.now)
 
@@ -37,14 +37,14 @@ unfolding settings_of
 div-full c = (allowed-sized _ (ready (c.before.before)).allows).dim_some
 
 full-requires : tie.Need-full-requires
-full-requires c κs = rw c.before.settings.ensures (ready_counts _ _ (ready (c.before.before)))
+full-requires c κs = rw c.settings.ensures (ready_counts _ _ (ready (c.before.before)))
 
 returns-2 : tie.Need-returns
 unfolding settings_of lent_tree
 returns-2 c =
     let start = start (c.before.before.before) in
     c.full.ensures start.args.links.now
-    ∙ rw c.before.before.settings.ensures (answer_then _ _ (accepts (c.before.before.before))
+    ∙ rw c.settings.ensures (answer_then _ _ (accepts (c.before.before.before))
     ∙ ap answer_of (batch_parts start.args.h (lent start) start.args.rows.now))
 
 pub batch_spec : {M : Type 1} → statement M

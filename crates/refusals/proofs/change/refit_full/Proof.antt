@@ -8,7 +8,7 @@ returns : tie.Need-returns-then-entries-eq0
 returns c = λ t e. refit_none t _ (e ∙ c.if-entries-eq0.true)
 
 returns-2 : tie.Need-returns-then-rows-gt-MOST_ROWS
-returns-2 c = λ t e. refit_over t _ (λ z. c.before.if-entries-eq0.false (sym e ∙ z)) c.if-rows-gt-MOST_ROWS.true
+returns-2 c = λ t e. refit_over t _ (λ z. c.if-entries-eq0.false (sym e ∙ z)) c.if-rows-gt-MOST_ROWS.true
 
 returns-3 : tie.Need-returns
 returns-3 c = λ t e. refit_fits t _ c.if-rows-gt-MOST_ROWS.false

@@ -19,27 +19,27 @@ abbrev start : tie.In-Accepted → tie.Start
 start c = c.before.before.before.before.before.before.before.before
 
 accepts : (c : tie.In-Accepted) → answer_of (change_refusals (start c).args.h (lent (start c))) ≡ Accepted
-accepts c = sym c.before.before.change-a.ensures ∙ c.in-Accepted.is
+accepts c = sym c.change-a.ensures ∙ c.in-Accepted.is
 
 ready : (c : tie.In-Accepted) → Ready (start c).args.h (lent (start c))
 ready c = change_grants _ _ (accepts c)
 
 returns : tie.Need-returns-in_default
 unfolding row_refusals
-returns c = c.before.before.change-a.ensures ∙ answer_first _ _ (sym c.before.before.change-a.ensures ∙ c.in_default.is)
+returns c = c.change-a.ensures ∙ answer_first _ _ (sym c.change-a.ensures ∙ c.in_default.is)
 
 returns-2 : tie.Need-returns-then-row-s
 unfolding row_refusals row_asked row_shape_refusal
-returns-2 c = rw c.before.before.settings-s.ensures (unless_refused _ _ _ (ne_eqb _ _ (rw c.before.before.settings-s.ensures at c.if-row-s.true)) ∙ answer_then _ _ (accepts (c.before.before.before)))
+returns-2 c = rw c.settings-s.ensures (unless_refused _ _ _ (ne_eqb _ _ (rw c.settings-s.ensures at c.if-row-s.true)) ∙ answer_then _ _ (accepts (c.before.before.before)))
 
 full-requires : tie.Need-full-requires
-full-requires c κs = rw c.before.before.settings-s.ensures (ready_counts _ _ (ready (c.before.before.before)))
+full-requires c κs = rw c.settings-s.ensures (ready_counts _ _ (ready (c.before.before.before)))
 
 returns-3 : tie.Need-returns
 unfolding row_refusals row_asked row_shape_refusal lent_tree
 returns-3 c =
-    c.full.ensures c.before.before.before.before.before.before.before.before.before.before.before.before.args.links.now
-    ∙ rw c.before.before.before.settings-s.ensures (unless_passed _ _ _ (eq-eqb _ _ (rw c.before.before.before.settings-s.ensures at c.before.if-row-s.false)) ∙ answer_then _ _ (accepts (c.before.before.before.before)))
+    c.full.ensures c.args.links.now
+    ∙ rw c.settings-s.ensures (unless_passed _ _ _ (eq-eqb _ _ (rw c.settings-s.ensures at c.if-row-s.false)) ∙ answer_then _ _ (accepts (c.before.before.before.before)))
 
 pub row_spec : {M : Type 1} → statement M
 row_spec = tie.close (tie.spec (λ c κs. search rules) (λ c. search rules) (λ c. search rules) returns (λ c κs. search rules) returns-2 full-requires returns-3)

@@ -17,10 +17,10 @@ start c = c.before.before.before.before.before.before.before.before
 
 accepts : (c : tie.In-Accepted) → let a = (start c).args in
     answer_of (change_refusals a.h (lending a.floats.now a.links.now a.scratch.now a.numbers.now)) ≡ Accepted
-accepts c = sym c.before.before.change-a.ensures ∙ c.in-Accepted.is
+accepts c = sym c.change-a.ensures ∙ c.in-Accepted.is
 
 returns : tie.Need-returns-in_default
-returns c = c.before.before.change-a.ensures ∙ answer_first _ _ (sym c.before.before.change-a.ensures ∙ c.in_default.is)
+returns c = c.change-a.ensures ∙ answer_first _ _ (sym c.change-a.ensures ∙ c.in_default.is)
 
 shape-requires : tie.Need-shape-requires
 unfolding settings_of

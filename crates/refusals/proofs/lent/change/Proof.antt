@@ -33,14 +33,14 @@ abbrev start : tie.In-Accepted → tie.Start
 start c = c.before.before.before.before.before.before.before
 
 accepts : (c : tie.In-Accepted) → answer_of (create_refusals (start c).args.h (start c).args.floats.now (start c).args.links.now) ≡ Accepted
-accepts c = sym c.before.before.create-a.ensures ∙ c.in-Accepted.is
+accepts c = sym c.create-a.ensures ∙ c.in-Accepted.is
 
 roomy : (c : tie.In-Accepted) → Granted (start c).args.h (start c).args.floats.now (start c).args.links.now
 roomy c = create_grants _ _ _ (accepts c)
 
 returns : tie.Need-returns-in_default
 returns c =
-    let create = c.before.before.create-a in
+    let create = c.create-a in
     let start = c.before.before.before.before.before.before.before in
     create.ensures ∙ answer_first _ _ (sym create.ensures ∙ c.in_default.is) ∙ ap answer_of (change_parts start.args.h (lent start))
 
@@ -48,28 +48,28 @@ scratch-floats-needed-requires : tie.Need-scratch_floats_needed-requires
 scratch-floats-needed-requires c κs = rw c.settings-s.ensures (roomy (c.before)).sized
 
 scratch-links-needed-requires : tie.Need-scratch_links_needed-requires
-scratch-links-needed-requires c κs = rw c.before.settings-s.ensures (roomy (c.before.before)).sized
+scratch-links-needed-requires c κs = rw c.settings-s.ensures (roomy (c.before.before)).sized
 
 returns-2 : tie.Need-returns-in_default-b
 returns-2 c =
-    let room = c.before.before.room-b in
+    let room = c.room-b in
     let start = c.before.before.before.before.before.before.before.before.before.before.before.before.before in
-    let e : room.result ≡ answer_of (scratch start) = rw (c.before.before.before.scratch_links_needed.ensures, c.before.before.before.before.scratch_floats_needed.ensures, c.before.before.before.before.before.settings-s.ensures) at
+    let e : room.result ≡ answer_of (scratch start) = rw (c.scratch_links_needed.ensures, c.scratch_floats_needed.ensures, c.settings-s.ensures) at
     room.ensures in
     e ∙ answer_first (scratch start) (rest start) (sym e ∙ c.in_default-b.is) ∙ answer_then _ _ (accepts (c.before.before.before.before.before.before)) ∙ ap answer_of (change_parts start.args.h (lent start))
 
 tree-check-requires : tie.Need-tree_check-requires
-tree-check-requires c κs = let g = roomy (c.before.before.before.before.before.before) in rw c.before.before.before.before.before.settings-s.ensures (g.sized, g.floats_room, g.links_room)
+tree-check-requires c κs = let g = roomy (c.before.before.before.before.before.before) in rw c.settings-s.ensures (g.sized, g.floats_room, g.links_room)
 
 returns-3 : tie.Need-returns
 unfolding lent_tree
 returns-3 c =
-    let room = c.before.before.before.room-b in
+    let room = c.room-b in
     let start = c.before.before.before.before.before.before.before.before.before.before.before.before.before.before in
-    let e : room.result ≡ answer_of (scratch start) = rw (c.before.before.before.before.scratch_links_needed.ensures, c.before.before.before.before.before.scratch_floats_needed.ensures, c.before.before.before.before.before.before.settings-s.ensures) at
+    let e : room.result ≡ answer_of (scratch start) = rw (c.scratch_links_needed.ensures, c.scratch_floats_needed.ensures, c.settings-s.ensures) at
     room.ensures in
-    let f : c.tree_check.result ≡ answer_of (rest start) = rw c.before.before.before.before.before.before.settings-s.ensures at c.tree_check.ensures in
-    f ∙ answer_then (scratch start) (rest start) (sym e ∙ c.before.in-Accepted-b.is)
+    let f : c.tree_check.result ≡ answer_of (rest start) = rw c.settings-s.ensures at c.tree_check.ensures in
+    f ∙ answer_then (scratch start) (rest start) (sym e ∙ c.in-Accepted-b.is)
     ∙ answer_then _ _ (accepts (c.before.before.before.before.before.before.before)) ∙ ap answer_of (change_parts start.args.h (lent start))
 
 pub change_spec : {M : Type 1} → statement M

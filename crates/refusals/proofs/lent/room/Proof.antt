@@ -12,11 +12,11 @@ returns c = unless_refused _ _ _ (lt-leb _ _ c.if-floats-floats_needed.true)
 
 returns-2 : tie.Need-returns-then-links-links_needed
 unfolding room_refusal
-returns-2 c = only_refused _ _ (lt-leb _ _ c.if-links-links_needed.true) ∙ unless_passed _ _ _ (le-leb _ _ c.before.if-floats-floats_needed.false)
+returns-2 c = only_refused _ _ (lt-leb _ _ c.if-links-links_needed.true) ∙ unless_passed _ _ _ (le-leb _ _ c.if-floats-floats_needed.false)
 
 returns-3 : tie.Need-returns
 unfolding room_refusal
-returns-3 c = only_passed _ _ (le-leb _ _ c.if-links-links_needed.false) ∙ unless_passed _ _ _ (le-leb _ _ c.before.if-floats-floats_needed.false)
+returns-3 c = only_passed _ _ (le-leb _ _ c.if-links-links_needed.false) ∙ unless_passed _ _ _ (le-leb _ _ c.if-floats-floats_needed.false)
 
 pub room_spec : {M : Type 1} → statement M
 room_spec = tie.close (tie.spec returns returns-2 returns-3)

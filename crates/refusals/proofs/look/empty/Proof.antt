@@ -8,7 +8,7 @@ returns : tie.Need-returns-then-rows-eq0
 returns c = λ t e. no_rows t _ c.if-rows-eq0.true
 
 returns-2 : tie.Need-returns-then-entries-eq0
-returns-2 c = λ t e. nowhere t _ c.before.if-rows-eq0.false (e ∙ c.if-entries-eq0.true)
+returns-2 c = λ t e. nowhere t _ c.if-rows-eq0.false (e ∙ c.if-entries-eq0.true)
 
 returns-3 : tie.Need-returns
 returns-3 c = λ t e. somewhere t _ (λ z. c.if-entries-eq0.false (sym e ∙ z))

@@ -6,10 +6,10 @@ use Rattle.refusals.proofs.look.routes.Statement.{statement}
 use Rattle.refusals.proofs.look.routes.Tie as tie
 
 returns : tie.Need-returns-in_default
-returns c = λ t e. c.before.before.empty-a.ensures t e ∙ answer_first _ _ (sym (c.before.before.empty-a.ensures t e) ∙ c.in_default.is)
+returns c = λ t e. c.empty-a.ensures t e ∙ answer_first _ _ (sym (c.empty-a.ensures t e) ∙ c.in_default.is)
 
 returns-2 : tie.Need-returns
-returns-2 c = λ t e. c.output.ensures ∙ answer_then _ _ (sym (c.before.before.before.empty-a.ensures t e) ∙ c.before.in-Accepted.is)
+returns-2 c = λ t e. c.output.ensures ∙ answer_then _ _ (sym (c.empty-a.ensures t e) ∙ c.in-Accepted.is)
 
 pub routes_spec : {M : Type 1} → statement M
 routes_spec = tie.close (tie.spec (λ c κs. search rules) (λ c. search rules) (λ c. search rules) returns (λ c κs. search rules) returns-2)

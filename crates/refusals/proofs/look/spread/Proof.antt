@@ -18,11 +18,11 @@ abbrev start : tie.In-Accepted → tie.Start
 start c = c.before.before.before.before.before.before
 
 accepts : (c : tie.In-Accepted) → answer_of (tree_refusals (start c).args.h (start c).args.floats.now (start c).args.links.now) ≡ Accepted
-accepts c = sym c.before.before.look-a.ensures ∙ c.in-Accepted.is
+accepts c = sym c.look-a.ensures ∙ c.in-Accepted.is
 
 returns : tie.Need-returns-in_default
 unfolding spread_refusals
-returns c = c.before.before.look-a.ensures ∙ answer_first _ _ (sym c.before.before.look-a.ensures ∙ c.in_default.is)
+returns c = c.look-a.ensures ∙ answer_first _ _ (sym c.look-a.ensures ∙ c.in_default.is)
 
 mul-output : tie.Need-overflow_mul-h
 mul-output c = let small = spread_small _ _ _ (accepts (c.before)) in omega arith
@@ -30,7 +30,7 @@ mul-output c = let small = spread_small _ _ _ (accepts (c.before)) in omega arit
 returns-2 : tie.Need-returns
 unfolding settings_of lent_tree spread_refusals spread_asked
 returns-2 c =
-    let a = c.before.before.before.before.before.before.before.before.args in
+    let a = c.args in
     let many = count_entries_lem (settings_of a.h) a.h.counters a.floats.now a.links.now in
     c.output.ensures ∙ ap (λ k. answer_of (output_refusal (k * a.h.dim) (length a.out.now))) (sym many) ∙ answer_then _ _ (accepts (c.before.before))
 

@@ -70,14 +70,14 @@ module _ (c : tie.At-loop-left invariant-loop decreases-loop) (h : 0 < c.loop-le
 
 -- one node waits at least, and one may be visited
 some : (c : tie.After-is_leaf invariant-loop decreases-loop) → 0 < (turn c).loop-left.high
-some c = omega (arith, c.before.before.before.if-high-eq0.false)
+some c = omega (arith, c.if-high-eq0.false)
 
 more : (c : tie.After-is_leaf invariant-loop decreases-loop) → 0 < (turn c).loop-left.left
-more c = c.before.before.before.before.loop-left-test.true
+more c = c.loop-left-test.true
 
 -- the list and the kind that were read are the node's
-list : (c : tie.After-is_leaf invariant-loop decreases-loop) → c.before.list-list.result.now ≡ (node_at (tree (start (turn c))) (top (turn c))).list-list
-list c = c.before.list-list.ensures (start (turn c)).args.floats.now
+list : (c : tie.After-is_leaf invariant-loop decreases-loop) → c.list-list.result.now ≡ (node_at (tree (start (turn c))) (top (turn c))).list-list
+list c = c.list-list.ensures (start (turn c)).args.floats.now
 
 kind : (c : tie.After-is_leaf invariant-loop decreases-loop) {b : Bool} → c.is_leaf.result ≡ b → (node_at (tree (start (turn c))) (top (turn c))).leaf ≡ b
 kind c e = sym (c.is_leaf.ensures (start (turn c)).args.floats.now) ∙ e
@@ -86,14 +86,14 @@ cast-stack : tie.Need-overflow_cast-stack invariant-loop decreases-loop
 cast-stack c =
     let start = c.before.before.before.before.before in
     let a = start.args in
-    let root = root_in a.s a.n a.floats.now a.links.now start.requires.floats.2.framed in
-    omega (arith, root, start.requires.floats.0.nodes_in, caps_small a.s a.n _ start.requires.floats.0)
+    let root = root_in a.s a.n a.floats.now a.links.now start.requires.0.2.framed in
+    omega (arith, root, start.requires.0.0.nodes_in, caps_small a.s a.n _ start.requires.0.0)
 
 slice-write-stack : tie.Need-bounds-stack-0 invariant-loop decreases-loop
 unfolding entry_cap
 slice-write-stack c =
     let start = c.before.before.before.before.before in
-    omega (arith, start.requires.s_in_bounds.1)
+    omega (arith, start.requires.1.1)
 
 loop-holds : tie.Need-loop-left-init invariant-loop decreases-loop
 unfolding entry_cap tree_of
@@ -102,12 +102,12 @@ loop-holds c =
     let a = start.args in (
       refl,
       refl,
-      collect_start a.s _ start.requires.floats.2 (sym (count_nodes_lem a.s a.n _ _)) (no_slots a.s a.scratch.now)
-          (waiting-put a.stack.now 0 _ (omega (arith, start.requires.s_in_bounds.1)) ∙ ap (λ ns. a.n.root ∷ ns) (none_wait a.stack.now 0 refl)),
+      collect_start a.s _ start.requires.0.2 (sym (count_nodes_lem a.s a.n _ _)) (no_slots a.s a.scratch.now)
+          (waiting-put a.stack.now 0 _ (omega (arith, start.requires.1.1)) ∙ ap (λ ns. a.n.root ∷ ns) (none_wait a.stack.now 0 refl)),
     )
 
 same_length : tie.Need-shape_of-scratch-then-high-eq0 invariant-loop decreases-loop
-same_length c = c.before.before.loop-left.invariant.0
+same_length c = c.loop-left.invariant.0
 
 same-length-2 : tie.Need-shape_of-stack-then-high-eq0 invariant-loop decreases-loop
 same-length-2 c = long c.before.before
@@ -123,25 +123,25 @@ sub-high c = omega (arith, c.if-high-eq0.false)
 mul-i : tie.Need-offset_bounds-stack-high invariant-loop decreases-loop
 mul-i c =
     let start = start c.before.before in
-    omega (arith, few c.before.before, c.if-high-eq0.false, caps_small start.args.s start.args.n _ start.requires.floats.0)
+    omega (arith, few c.before.before, c.if-high-eq0.false, caps_small start.args.s start.args.n _ start.requires.0.0)
 
 slice-read-i : tie.Need-bounds-stack-high invariant-loop decreases-loop
 slice-read-i c =
     let at = c.before.before.before in
-    omega (arith, few at, c.before.if-high-eq0.false, (start at).requires.s_in_bounds.1, long at)
+    omega (arith, few at, c.if-high-eq0.false, (start at).requires.1.1, long at)
 
 cast-i : tie.Need-overflow_cast-i invariant-loop decreases-loop
-cast-i c = omega (arith, c.slice_known-in-loop-left-1.given (c.before.before.before.loop-left.high - 1))
+cast-i c = omega (arith, c.slice_known-in-loop-left-1.given (c.loop-left.high - 1))
 
 list-requires : tie.Need-list-list-requires invariant-loop decreases-loop
 list-requires c κs =
     let at = c.before.before.before in
-    ((start at).requires.floats.1, here at (omega (arith, c.before.if-high-eq0.false)))
+    ((start at).requires.0.1, here at (omega (arith, c.if-high-eq0.false)))
 
 is-leaf-requires : tie.Need-is_leaf-requires invariant-loop decreases-loop
 is-leaf-requires c κs =
     let at = c.before.before.before.before in
-    ((start at).requires.floats.1, here at (omega (arith, c.before.before.if-high-eq0.false)))
+    ((start at).requires.0.1, here at (omega (arith, c.if-high-eq0.false)))
 
 copy-entries-requires : tie.Need-copy_entries-count-requires invariant-loop decreases-loop
 copy-entries-requires c κs =
@@ -149,16 +149,16 @@ copy-entries-requires c κs =
     let at = turn read in
     let start = start at in
     let a = start.args in
-    let leaf = kind read c.before.if-is_leaf.true in
+    let leaf = kind read c.if-is_leaf.true in
     let room = leaf_room a.s (tree start) at.loop-left.left (done at) (top at) (others at) (opened at (some read)) (more read) leaf in (
       (
-        start.requires.floats.0,
+        start.requires.0.0,
         subst (ChildrenIn a.n true) (sym (list read))
-            (frame_children a.s a.n a.floats.now a.links.now start.requires.floats.2.framed (top at) (here at (some read)) true leaf),
+            (frame_children a.s a.n a.floats.now a.links.now start.requires.0.2.framed (top at) (here at (some read)) true leaf),
       ),
       (
         omega (arith, room, length_slots a.s at.loop-left.scratch at.loop-left.count, ap length (list read)),
-        rw at.loop-left.inv.0 start.requires.s_in_bounds.0,
+        rw at.loop-left.inv.0 start.requires.1.0,
       ),
     )
 
@@ -167,9 +167,9 @@ stack-list-requires c κs =
     let read = c.before.before in
     let at = turn read in
     let start = start at in
-    let inner = kind read c.before.if-is_leaf.false in
+    let inner = kind read c.if-is_leaf.false in
     let room = inner_room start.args.s (tree start) at.loop-left.left (done at) (top at) (others at) (opened at (some read)) (more read) inner in
-    omega (arith, room, length-waiting at.loop-left.stack (at.loop-left.high - 1), ap length (list read), start.requires.s_in_bounds.1, long at)
+    omega (arith, room, length-waiting at.loop-left.stack (at.loop-left.high - 1), ap length (list read), start.requires.1.1, long at)
 
 sub-left : tie.Need-overflow_sub-left invariant-loop decreases-loop
 sub-left c = omega (arith, more c.before)
@@ -202,7 +202,7 @@ loop-again c =
     ]
 
 same-length-3 : tie.Need-shape_of-scratch invariant-loop decreases-loop
-same-length-3 c = c.before.loop-left.invariant.0
+same-length-3 c = c.loop-left.invariant.0
 
 same-length-4 : tie.Need-shape_of-stack invariant-loop decreases-loop
 same-length-4 c = long c.before

@@ -36,13 +36,13 @@ abbrev start : tie.After-summary-c invariant-loop decreases-loop → tie.Start i
 start c = c.before.before.before.before.before.before.before
 
 -- the number in the list, and the place in scratch, are there
-listed : (c : tie.After-summary-c invariant-loop decreases-loop) → get_or (start c).args.list.now c.before.before.before.loop-k.k 0 < (start c).args.n.entries
+listed : (c : tie.After-summary-c invariant-loop decreases-loop) → get_or (start c).args.list.now c.loop-k.k 0 < (start c).args.n.entries
 listed c =
     let a = (start c).args in
-    entry_listed a.n a.list.now (start c).requires.floats.1 c.before.before.before.loop-k.k c.before.before.loop-k-test.true
+    entry_listed a.n a.list.now (start c).requires.0.1 c.loop-k.k c.loop-k-test.true
 
-few : (c : tie.After-summary-c invariant-loop decreases-loop) → (start c).args.count + c.before.before.before.loop-k.k < entry_cap (start c).args.s
-few c = omega (arith, (start c).requires.list_bound.0, c.before.before.loop-k-test.true)
+few : (c : tie.After-summary-c invariant-loop decreases-loop) → (start c).args.count + c.loop-k.k < entry_cap (start c).args.s
+few c = omega (arith, (start c).requires.1.0, c.loop-k-test.true)
 
 loop-holds : tie.Need-loop-k-init invariant-loop decreases-loop
 loop-holds c =
@@ -51,26 +51,26 @@ loop-holds c =
     (omega arith, refl, λ ls. copy_start a.s (entry start ls) a.list.now a.count a.scratch.now)
 
 cast-summary : tie.Need-overflow_cast-list invariant-loop decreases-loop
-cast-summary c = omega (arith, c.shared_slice_known-in-loop-k-1.given c.before.before.loop-k.k)
+cast-summary c = omega (arith, c.shared_slice_known-in-loop-k-1.given c.loop-k.k)
 
 summary-requires : tie.Need-summary-c-requires invariant-loop decreases-loop
 summary-requires c κs =
     let start = c.before.before.before.before.before.before in
     let a = start.args in
-    (start.requires.floats.0, entry_listed a.n a.list.now start.requires.floats.1 c.before.before.loop-k.k c.before.loop-k-test.true)
+    (start.requires.0.0, entry_listed a.n a.list.now start.requires.0.1 c.loop-k.k c.loop-k-test.true)
 
 add-store : tie.Need-overflow_add-count invariant-loop decreases-loop
 add-store c =
     let start = start c.before in
-    omega (arith, few c.before, caps_small start.args.s start.args.n _ start.requires.floats.0)
+    omega (arith, few c.before, caps_small start.args.s start.args.n _ start.requires.0.0)
 
 store-requires : tie.Need-store-requires invariant-loop decreases-loop
 store-requires c κs =
     let read = c.before in
     let start = start read in
     let a = start.args in
-    let z = start.requires.floats.0.sized in (
-      rw read.before.before.before.loop-k.invariant.1 (slot_there a.s _ _ z start.requires.list_bound.1 (few read)),
+    let z = start.requires.0.0.sized in (
+      rw read.loop-k.invariant.1 (slot_there a.s _ _ z start.requires.1.1 (few read)),
       subst (Shaped a.s.feature a.s.dim) (sym (read.summary-c.ensures []))
           (entry_shaped a.s z a.n a.floats.now [] _ (listed read)),
     )
@@ -78,33 +78,33 @@ store-requires c κs =
 loop-less : tie.Need-loop-k-smaller invariant-loop decreases-loop
 loop-less c =
     let read = c.before.before.before.before in
-    omega (arith, read.before.before.loop-k-test.true)
+    omega (arith, read.loop-k-test.true)
 
 loop-again : tie.Need-loop-k-preserved invariant-loop decreases-loop
 loop-again c =
     let read = c.before.before.before.before in
-    let loop = read.before.before.before.loop-k in
+    let loop = read.loop-k in
     let a = (start read).args in
-    let more = read.before.before.loop-k-test.true in (
+    let more = read.loop-k-test.true in (
       omega arith,
-      c.before.before.store.auto.1.0 ∙ loop.invariant.1,
+      c.store.auto.floats ∙ loop.invariant.1,
       λ ls. copy_turn a.s (entry (start read) ls) a.list.now a.count loop.k _ loop.scratch _ (old (start read)) more
-          (read.summary-c.ensures ls) c.before.before.store.ensures (loop.invariant.2 ls),
+          (read.summary-c.ensures ls) c.store.ensures (loop.invariant.2 ls),
     )
 
 add-result : tie.Need-overflow_add-result invariant-loop decreases-loop
 add-result c =
     let start = c.before.before.before.before.before in
-    omega (arith, start.requires.list_bound.0, caps_small start.args.s start.args.n _ start.requires.floats.0)
+    omega (arith, start.requires.1.0, caps_small start.args.s start.args.n _ start.requires.0.0)
 
 same_length : tie.Need-shape_of-scratch invariant-loop decreases-loop
-same_length c = c.before.loop-k.invariant.1
+same_length c = c.loop-k.invariant.1
 
 returns : tie.Need-returns invariant-loop decreases-loop
 returns c =
     let start = c.before.before.before.before.before in
     let a = start.args in
-    let loop = c.before.loop-k in (
+    let loop = c.loop-k in (
       refl,
       λ ls. copy_end a.s (entry start ls) a.list.now a.count loop.k loop.scratch (old start) loop.invariant.0 (omega arith)
           (loop.invariant.2 ls),

@@ -21,21 +21,21 @@ loop-holds c = let a = c.args in (omega arith, refl, stack_start a.list.now _ a.
 
 loop-again : tie.Need-loop-k-preserved invariant-loop decreases-loop
 loop-again c =
-    let a = c.before.before.before.args in
-    let loop = c.before.before.loop-k in
-    let more = c.before.loop-k-test.true in (
+    let a = c.args in
+    let loop = c.loop-k in
+    let more = c.loop-k-test.true in (
       omega arith,
       simp length-set loop.invariant.1,
-      stack_turn a.list.now _ a.high loop.k loop.stack more (omega (arith, c.before.before.before.requires, loop.invariant.1)) loop.invariant.2,
+      stack_turn a.list.now _ a.high loop.k loop.stack more (omega (arith, c.requires, loop.invariant.1)) loop.invariant.2,
     )
 
 same_length : tie.Need-shape_of-stack invariant-loop decreases-loop
-same_length c = c.before.loop-k.invariant.1
+same_length c = c.loop-k.invariant.1
 
 returns : tie.Need-returns invariant-loop decreases-loop
 returns c =
-    let a = c.before.before.args in
-    let loop = c.before.loop-k in
+    let a = c.args in
+    let loop = c.loop-k in
     stack_end a.list.now _ a.high loop.k loop.stack loop.invariant.0 (omega arith) loop.invariant.2
 
 pub stack_list_spec : {M : Type 1} → statement M

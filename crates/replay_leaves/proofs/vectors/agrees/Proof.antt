@@ -7,7 +7,7 @@ use Rattle.replay_leaves.proofs.vectors.agrees.Tie as tie
 
 slice-read-same : tie.Need-bounds-floats-w
 unfolding slot_width
-slice-read-same c = omega (arith, c.before.before.before.before.slot_width-w.ensures, c.before.before.before.before.before.before.requires.2)
+slice-read-same c = omega (arith, c.slot_width-w.ensures, c.requires.2)
 
 pub agrees_spec : {M : Type 1} → statement M
 agrees_spec =

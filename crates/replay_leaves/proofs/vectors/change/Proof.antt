@@ -7,7 +7,7 @@ use Rattle.arena.specs.Trees.{entry_shaped}
 use Rattle.replay_leaves.proofs.vectors.change.Statement.{statement}
 use Rattle.replay_leaves.proofs.vectors.change.Tie as tie
 
-shaped : (c : tie.After-summary-b) → Shaped c.before.before.before.args.s.feature c.before.before.before.args.s.dim c.summary-b.result
+shaped : (c : tie.After-summary-b) → Shaped c.args.s.feature c.args.s.dim c.summary-b.result
 shaped c =
     let start = c.before.before.before in
     rw (c.summary-b.ensures [])
@@ -15,13 +15,13 @@ shaped c =
 
 push-requires : tie.Need-push-requires
 push-requires c κs =
-    let (floats, two) = c.before.before.before.before.before.before.before.requires in
+    let (floats, two) = c.requires in
     let long = (shaped c.before.before.before.before).means.long in
     (floats, omega (arith, two), omega (arith, long, floats.sized.dim_few))
 
 merge-requires : tie.Need-merge-requires
 merge-requires c κs =
-    let (floats, two) = c.before.before.before.before.before.requires in
+    let (floats, two) = c.requires in
     (floats, omega (arith, two), shaped c.before.before)
 
 pub change_spec : {M : Type 1} → statement M

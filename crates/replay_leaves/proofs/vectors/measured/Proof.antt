@@ -8,8 +8,8 @@ use Rattle.replay_leaves.proofs.vectors.measured.Tie as tie
 
 to-row-requires : tie.Need-to_row-requires
 to-row-requires c κs =
-    let (floats, two) = c.before.before.before.before.before.requires in
-    let long : length c.before.before.summary-b.result.mean ≡ 8 = search rules in
+    let (floats, two) = c.requires in
+    let long : length c.summary-b.result.mean ≡ 8 = search rules in
     (floats, omega (arith, two), omega (arith, long, floats.sized.dim_few))
 
 pub measured_spec : {M : Type 1} → statement M

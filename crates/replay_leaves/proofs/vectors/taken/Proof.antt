@@ -26,17 +26,17 @@ room s n l z e c k =
 read-requires : tie.Need-read-requires
 unfolding slot_width
 read-requires c κs =
-    let w = c.before.slot_width.ensures in
-    let d = c.before.before.before.before.requires.0.dim_few in
+    let w = c.slot_width.ensures in
+    let d = c.requires.0.dim_few in
     (omega arith, omega arith)
 
 agrees-requires : tie.Need-agrees-requires
 agrees-requires c κs =
     let start = c.before.before.before.before.before.before.before.before in
-    let new = c.before.before.before.before.before.before.before.new in
-    let n = c.before.before.before.before.before.before.with_entries-n in
+    let new = c.new in
+    let n = c.with_entries-n in
     room start.args.s n.result _ start.requires.0 start.requires.1 (n.ensures ∙ ap (count_entries 2) new.ensures)
-    c.before.before.before.read.auto.1.1.0
+    c.read.auto.floats
 
 pub taken_spec : {M : Type 1} → statement M
 taken_spec =

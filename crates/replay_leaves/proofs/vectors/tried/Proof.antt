@@ -10,9 +10,9 @@ use Rattle.replay_leaves.proofs.vectors.tried.Tie as tie
 taken-requires : tie.Need-taken-requires
 unfolding new_head settings_of
 taken-requires c κs =
-    let new = c.before.before.before.new in
-    let is-allowed = c.before.before.is_allowed in
-    let if3 = c.before.if-not-is_allowed in (
+    let new = c.new in
+    let is-allowed = c.is_allowed in
+    let if3 = c.if-not-is_allowed in (
       rw c.settings.ensures (allowed-sized new.result (sym is-allowed.ensures ∙ not-false _ if3.false)),
       rw (c.settings.ensures, new.ensures) (refl {a = 1}),
     )

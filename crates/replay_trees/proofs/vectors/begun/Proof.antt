@@ -8,9 +8,9 @@ use Rattle.replay_trees.proofs.vectors.begun.Tie as tie
 
 checked-requires : tie.Need-checked-requires
 checked-requires c κs =
-    let new = c.before.before.before.before.new in
-    let is-allowed = c.before.before.before.is_allowed in
-    let if1 = c.before.before.if-not-is_allowed in
+    let new = c.new in
+    let is-allowed = c.is_allowed in
+    let if1 = c.if-not-is_allowed in
     rw c.settings.ensures (allowed-sized new.result (sym is-allowed.ensures ∙ not-false _ if1.false))
 
 pub begun_spec : {M : Type 1} → statement M

@@ -18,22 +18,22 @@ decreases-loop s count floats₀ slot₀ i₀ floats slot i = count - i
 mul-slot : tie.Need-overflow_mul-slot invariant-loop decreases-loop
 mul-slot c =
     let start = c.before.before.before.before in
-    let n : c.before.node_cap.result ≤ 33153 = rw c.before.node_cap.ensures (nodes_small start.args.s start.requires) in
+    let n : c.node_cap.result ≤ 33153 = rw c.node_cap.ensures (nodes_small start.args.s start.requires) in
     let w : c.slot_width.result ≤ 17 = rw c.slot_width.ensures (slot_small start.args.s start.requires) in
-    let p : c.before.node_cap.result * c.slot_width.result ≤ 33153 * 17 = mul-le-mul n w in omega arith
+    let p : c.node_cap.result * c.slot_width.result ≤ 33153 * 17 = mul-le-mul n w in omega arith
 
 loop-holds : tie.Need-loop-i-init invariant-loop decreases-loop
 loop-holds c =
     let start = c.before.before.before.before in
-    let n : c.before.node_cap.result ≤ 33153 = rw c.before.node_cap.ensures (nodes_small start.args.s start.requires) in
+    let n : c.node_cap.result ≤ 33153 = rw c.node_cap.ensures (nodes_small start.args.s start.requires) in
     let w : c.slot_width.result ≤ 17 = rw c.slot_width.ensures (slot_small start.args.s start.requires) in
-    let p : c.before.node_cap.result * c.slot_width.result ≤ 33153 * 17 = mul-le-mul n w in
+    let p : c.node_cap.result * c.slot_width.result ≤ 33153 * 17 = mul-le-mul n w in
     (omega arith, omega arith, omega arith, refl)
 
 same_length : tie.Need-shape_of-floats-then-not-put_float invariant-loop decreases-loop
 same_length c =
-    let loop = c.before.before.before.before.before.before.before.loop-i in
-    let put-float = c.before.before.before.put_float in
+    let loop = c.loop-i in
+    let put-float = c.put_float in
     put-float.auto.0 ∙ loop.invariant.3
 
 add-slot : tie.Need-overflow_add-slot invariant-loop decreases-loop
@@ -44,13 +44,13 @@ add-slot c =
 loop-again : tie.Need-loop-i-preserved invariant-loop decreases-loop
 loop-again c =
     let start = c.before.before.before.before.before.before.before.before.before.before.before.before.before in
-    let loop = c.before.before.before.before.before.before.before.before.loop-i in
-    let put-float = c.before.before.before.before.put_float in
+    let loop = c.loop-i in
+    let put-float = c.put_float in
     let w = slot_small start.args.s start.requires in let e = c.slot_width-slot.ensures in
     (omega arith, omega arith, omega arith, put-float.auto.0 ∙ loop.invariant.3)
 
 same-length-2 : tie.Need-shape_of-floats invariant-loop decreases-loop
-same-length-2 c = c.before.loop-i.invariant.3
+same-length-2 c = c.loop-i.invariant.3
 
 pub read_entries_spec : {M : Type 1} → statement M
 read_entries_spec = tie.close (tie.spec invariant-loop decreases-loop (λ c. search rules) (λ c κs. search rules) (λ c κs. search rules) mul-slot loop-holds

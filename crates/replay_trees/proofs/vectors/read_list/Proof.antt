@@ -18,18 +18,18 @@ loop-holds c = (omega arith, omega arith, refl)
 
 same_length : tie.Need-shape_of-links-then-not-put_link invariant-loop decreases-loop
 same_length c =
-    let loop = c.before.before.before.before.before.before.before.loop-k in
-    let put-link = c.before.before.before.put_link in
+    let loop = c.loop-k in
+    let put-link = c.put_link in
     put-link.auto.0 ∙ loop.invariant.2
 
 loop-again : tie.Need-loop-k-preserved invariant-loop decreases-loop
 loop-again c =
-    let loop = c.before.before.before.before.before.before.before.loop-k in
-    let put-link = c.before.before.before.put_link in
+    let loop = c.loop-k in
+    let put-link = c.put_link in
     (omega arith, loop.invariant.1, put-link.auto.0 ∙ loop.invariant.2)
 
 same-length-2 : tie.Need-shape_of-links invariant-loop decreases-loop
-same-length-2 c = c.before.loop-k.invariant.2
+same-length-2 c = c.loop-k.invariant.2
 
 pub read_list_spec : {M : Type 1} → statement M
 read_list_spec = tie.close (tie.spec invariant-loop decreases-loop (λ c κs. search rules) (λ c. search rules) loop-holds (λ c. search rules) (λ c κs. search rules)

@@ -20,14 +20,14 @@ loop-holds c = (omega arith, omega arith, omega arith, omega arith, refl, refl)
 
 same_length : tie.Need-shape_of-floats-then-not-read_node invariant-loop decreases-loop
 same_length c =
-    let loop = c.before.before.before.before.before.before.before.before.before.loop-i in
-    let read-node = c.before.before.before.before.before.read_node in
+    let loop = c.loop-i in
+    let read-node = c.read_node in
     read-node.auto.0 ∙ loop.invariant.4
 
 same-length-2 : tie.Need-shape_of-links-then-not-read_node invariant-loop decreases-loop
 same-length-2 c =
-    let loop = c.before.before.before.before.before.before.before.before.before.loop-i in
-    let read-node = c.before.before.before.before.before.read_node in
+    let loop = c.loop-i in
+    let read-node = c.read_node in
     read-node.auto.1.1.0 ∙ loop.invariant.5
 
 add-slot : tie.Need-overflow_add-slot invariant-loop decreases-loop
@@ -43,17 +43,17 @@ add-block c =
 loop-again : tie.Need-loop-i-preserved invariant-loop decreases-loop
 loop-again c =
     let start = c.before.before.before.before.before.before.before.before.before.before.before.before.before.before.before in
-    let loop = c.before.before.before.before.before.before.before.before.before.before.before.loop-i in
-    let read-node = c.before.before.before.before.before.before.before.read_node in
-    let w = slot_small start.args.s start.requires in let e = c.before.slot_width-slot.ensures in
+    let loop = c.loop-i in
+    let read-node = c.read_node in
+    let w = slot_small start.args.s start.requires in let e = c.slot_width-slot.ensures in
     let v = block_small start.args.s start.requires in let f = c.block_width-block.ensures in
     (omega arith, omega arith, omega arith, omega arith, read-node.auto.0 ∙ loop.invariant.4, read-node.auto.1.1.0 ∙ loop.invariant.5)
 
 same-length-3 : tie.Need-shape_of-floats invariant-loop decreases-loop
-same-length-3 c = c.before.loop-i.invariant.4
+same-length-3 c = c.loop-i.invariant.4
 
 same-length-4 : tie.Need-shape_of-links invariant-loop decreases-loop
-same-length-4 c = c.before.loop-i.invariant.5
+same-length-4 c = c.loop-i.invariant.5
 
 pub read_nodes_spec : {M : Type 1} → statement M
 read_nodes_spec = tie.close (tie.spec invariant-loop decreases-loop (λ c. search rules) loop-holds (λ c κs. search rules) same_length same-length-2 (λ c. search rules)

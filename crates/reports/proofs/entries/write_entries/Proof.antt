@@ -32,7 +32,7 @@ write-entry-requires c κs =
     let start = turn.before.before.before.before in
     let loop = turn.loop-i in
     let few = start.requires.0.few in
-    (rw (c.before.summary-e.ensures start.args.links.now) (entry_fits start.requires.0 loop.i (omega arith)), omega arith)
+    (rw (c.summary-e.ensures start.args.links.now) (entry_fits start.requires.0 loop.i (omega arith)), omega arith)
 
 loop-again : tie.Need-loop-i-preserved invariant-loop decreases-loop
 loop-again c =
@@ -40,18 +40,18 @@ loop-again c =
     let turn = summary.before.before.before in
     let start = turn.before.before.before.before in
     let loop = turn.loop-i in
-    let new = c.before.before.write_entry-end in
+    let new = c.write_entry-end in
     let more = wrote_entry start.requires.0 loop.i (omega arith) loop.invariant.3 loop.invariant.2 (summary.summary-e.ensures start.args.links.now)
     new.ensures in
     (omega arith, new.auto.1.1.1.0 ∙ loop.invariant.1, more.0, more.1)
 
 same_length : tie.Need-shape_of-out invariant-loop decreases-loop
-same_length c = c.before.before.loop-i.invariant.1
+same_length c = c.loop-i.invariant.1
 
 returns : tie.Need-returns invariant-loop decreases-loop
 returns c =
     let start = c.before.before.before.before.before.before in
-    let loop = c.before.before.loop-i in
+    let loop = c.loop-i in
     let long = count_entries_lem start.args.s start.args.n start.args.floats.now start.args.links.now in
     wrote_is (lines-all start.args.s _ loop.i (omega arith)) loop.invariant.3
 

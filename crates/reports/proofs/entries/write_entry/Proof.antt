@@ -10,27 +10,27 @@ use Rattle.reports.proofs.entries.write_entry.Statement.{statement}
 use Rattle.reports.proofs.entries.write_entry.Tie as tie
 
 rows-of-requires : tie.Need-rows_of-rows-requires
-rows-of-requires c κs = c.before.requires.0.counts
+rows-of-requires c κs = c.requires.0.counts
 
 write-decimal-requires : tie.Need-write_decimal-a-requires
-write-decimal-requires c κs = omega (arith, decimal_short c.before.before.before.args.i)
+write-decimal-requires c κs = omega (arith, decimal_short c.args.i)
 
 decimal-requires : tie.Need-decimal-b-requires
 decimal-requires c κs =
     let start = c.before.before.before.before.before.before.before in
-    omega (arith, c.before.before.before.write_decimal-a.ensures.1, c.before.before.before.write_decimal-a.auto.1.0, decimal_short start.args.i)
+    omega (arith, c.write_decimal-a.ensures.1, c.write_decimal-a.auto.out, decimal_short start.args.i)
 
 write-summary-requires : tie.Need-write_summary-c-requires
 write-summary-requires c κs =
     let write-decimal = c.before.before.before.before.before.before.before in
     let rows_of_lem = write-decimal.before.before in
     let start = rows_of_lem.before.before in
-    let e = c.before.before.before.decimal-b.ensures in (
+    let e = c.decimal-b.ensures in (
       start.requires.0,
       omega (
         arith,
         write-decimal.write_decimal-a.ensures.1,
-        write-decimal.write_decimal-a.auto.1.0,
+        write-decimal.write_decimal-a.auto.out,
         decimal_short start.args.i,
         e.end,
         wrote_long e,
@@ -45,11 +45,11 @@ newline-requires c κs =
     let rows_of_lem = write-decimal.before.before in
     let start = rows_of_lem.before.before in
     let e = decimal.decimal-b.ensures in
-    let f = c.before.before.before.write_summary-c.ensures in
+    let f = c.write_summary-c.ensures in
     omega (
       arith,
       write-decimal.write_decimal-a.ensures.1,
-      write-decimal.write_decimal-a.auto.1.0,
+      write-decimal.write_decimal-a.auto.out,
       decimal_short start.args.i,
       e.end,
       wrote_long e,
@@ -70,7 +70,7 @@ returns c =
     let first = wrote_decimal a.i (omega arith) write-decimal.write_decimal-a.ensures in
     let rows = wrote_is (ap (λ n. tabbed (decimal_of n ∷ [])) rows_of_lem.rows_of_lem.ensures) decimal.decimal-b.ensures in
     wrote_is (entry_is _ _ start.requires.0 a.i) (wrote_both (wrote_both (wrote_both first rows) write-summary.write_summary-c.ensures)
-    c.before.before.newline.ensures)
+    c.newline.ensures)
 
 pub write_entry_spec : {M : Type 1} → statement M
 write_entry_spec =

@@ -25,7 +25,7 @@ returns c =
     let hexes = c.before.before.before.before.before.before.before in
     let slots = hexes.before.before.before.before.before in
     let start = slots.before.before in
-    let more = wrote_is (ap (λ k. tabbed (map hex_of (take k start.args.e.deviation-1))) slots.slots-slots.ensures) c.before.before.hexes.ensures in
+    let more = wrote_is (ap (λ k. tabbed (map hex_of (take k start.args.e.deviation-1))) slots.slots-slots.ensures) c.hexes.ensures in
     wrote_is (summary-is _ _ start.requires.0) (wrote_both hexes.hexes-end.ensures more)
 
 pub write_summary_spec : {M : Type 1} → statement M

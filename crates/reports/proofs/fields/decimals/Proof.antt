@@ -10,14 +10,14 @@ use Rattle.reports.proofs.fields.decimals.Tie as tie
 decimal-requires-2 : tie.Need-decimal-requires
 decimal-requires-2 c κs =
     let start = c.before.before.before.before.before.before in
-    let e = c.before.before.before.decimal-end.ensures in omega (arith, wrote_long e, e.end, tabbed-decimal start.args.m)
+    let e = c.decimal-end.ensures in omega (arith, wrote_long e, e.end, tabbed-decimal start.args.m)
 
 returns : tie.Need-returns
 returns c =
     let decimal = c.before.before.before.before.before.before in
     let start = decimal.before.before.before in
     wrote_is (tabbed_both (decimal_of start.args.m ∷ []) (decimal_of start.args.n ∷ [])) (wrote_both decimal.decimal-end.ensures
-    c.before.before.decimal.ensures)
+    c.decimal.ensures)
 
 pub decimals_spec : {M : Type 1} → statement M
 decimals_spec = tie.close (tie.spec (λ c κs. search rules) decimal-requires-2 (λ c. search rules) returns)

@@ -15,15 +15,15 @@ write-hex-requires c κs = simp length-set (omega arith)
 same_length : tie.Need-shape_of-out
 same_length c =
     let start = c.before.before.before.before.before in
-    c.before.before.write_hex.auto.1.0 ∙ length-set start.args.out.now _ _
+    c.write_hex.auto.out ∙ length-set start.args.out.now _ _
 
 returns : tie.Need-returns
 returns c =
     let start = c.before.before.before.before.before in
     wrote_is (tabbed-one (hex_of start.args.x)) (wrote_both (wrote_byte start.args.at start.args.out.now 9 (omega arith))
     (record {
-      bytes_in = c.before.before.write_hex.ensures.0;
-      end = c.before.before.write_hex.ensures.1;
+      bytes_in = c.write_hex.ensures.0;
+      end = c.write_hex.ensures.1;
       room = (let e = hex_length
           start.args.x in simp length-set (omega arith));
     }))

@@ -24,7 +24,7 @@ loop-holds c = (search rules, refl, wrote_none _ _ (omega arith))
 hex-requires : tie.Need-hex-end-requires invariant-loop decreases-loop
 hex-requires c κs =
     let start = c.before.before.before.before.before.before in
-    let loop = c.before.before.before.loop-i in
+    let loop = c.loop-i in
     let l = length-take-le loop.i start.args.xs.now (omega arith) in
     omega (arith, loop.invariant.2.end, hexes_long (take loop.i start.args.xs.now), l)
 
@@ -32,16 +32,16 @@ loop-again : tie.Need-loop-i-preserved invariant-loop decreases-loop
 loop-again c =
     let turn = c.before.before.before.before.before.before in
     let loop = turn.loop-i in
-    let new = c.before.before.hex-end in
+    let new = c.hex-end in
     (omega arith, new.auto.1.0 ∙ loop.invariant.1, wrote_is (hexes_more _ loop.i _ (omega arith)) (wrote_both loop.invariant.2 new.ensures))
 
 same_length : tie.Need-shape_of-out invariant-loop decreases-loop
-same_length c = c.before.loop-i.invariant.1
+same_length c = c.loop-i.invariant.1
 
 returns : tie.Need-returns invariant-loop decreases-loop
 returns c =
     let start = c.before.before.before.before in
-    let loop = c.before.loop-i in
+    let loop = c.loop-i in
     let e : loop.i ≡ start.args.k = omega arith in
     wrote_is (ap (λ n. tabbed (map hex_of (take n start.args.xs.now))) e) loop.invariant.2
 

@@ -19,11 +19,11 @@ loop-holds c = (search rules, c.requires, refl)
 
 loop-again : tie.Need-loop-i-preserved invariant-loop decreases-loop
 loop-again c =
-    let loop = c.before.before.before.loop-i in
+    let loop = c.loop-i in
     (omega arith, simp length-set (omega arith), simp length-set loop.invariant.2)
 
 pub put_spec : {M : Type 1} → statement M
 put_spec =
     tie.close (tie.spec invariant-loop decreases-loop loop-holds (λ c. search rules) (λ c. search rules) (λ c. search rules) (λ c. search rules)
-    (λ c. search rules) loop-again (λ c. search rules) (λ c. (c.before.loop-i.invariant.1, sym (length-take-le _ _ c.before.loop-i.invariant.1)))
-    (λ c. search rules) (λ c. (c.before.before.loop-i.invariant.1, sym (length-take-le _ _ c.before.before.loop-i.invariant.1))))
+    (λ c. search rules) loop-again (λ c. search rules) (λ c. (c.loop-i.invariant.1, sym (length-take-le _ _ c.loop-i.invariant.1)))
+    (λ c. search rules) (λ c. (c.loop-i.invariant.1, sym (length-take-le _ _ c.loop-i.invariant.1))))

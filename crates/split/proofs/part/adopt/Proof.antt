@@ -21,20 +21,20 @@ loop-holds : tie.Need-loop-k-init invariant-loop decreases-loop
 loop-holds c = (omega arith, refl, λ fs. refl)
 
 cast-set-parent : tie.Need-overflow_cast-list invariant-loop decreases-loop
-cast-set-parent c = omega (arith, c.shared_slice_known-in-loop-k-1.given c.before.before.before.loop-k.k)
+cast-set-parent c = omega (arith, c.shared_slice_known-in-loop-k-1.given c.loop-k.k)
 
 set-parent-requires : tie.Need-set_parent-requires invariant-loop decreases-loop
 set-parent-requires c κs =
-    let loop = c.before.before.before.loop-k in
+    let loop = c.loop-k in
     let start = c.before.before.before.before.before.before in
-    (rw loop.invariant.1 start.requires.links.0, start.requires.k_bound loop.k c.before.before.loop-k-test.true, start.requires.links.2)
+    (rw loop.invariant.1 start.requires.0.0, start.requires.1 loop.k c.loop-k-test.true, start.requires.0.2)
 
 loop-again : tie.Need-loop-k-preserved invariant-loop decreases-loop
 loop-again c =
-    let set-parent = c.before.before.set_parent in
-    let taken = c.before.before.before.before.before.loop-k-test.true in
-    let loop = c.before.before.before.before.before.before.loop-k in
-    let a = c.before.before.before.before.before.before.before.before.before.args in
+    let set-parent = c.set_parent in
+    let taken = c.loop-k-test.true in
+    let loop = c.loop-k in
+    let a = c.args in
     let ks = take a.len a.list.now in
     let below : loop.k < length ks = simp length-take (omega arith) in
     let here : get_or a.list.now loop.k 0 ≡ get_or ks loop.k 0 = sym (get_or-take a.len a.list.now loop.k 0 taken) in (
@@ -45,11 +45,11 @@ loop-again c =
 
 returns : tie.Need-returns invariant-loop decreases-loop
 returns c =
-    let loop = c.before.loop-k in
-    let a = c.before.before.before.before.args in
+    let loop = c.loop-k in
+    let a = c.args in
     λ fs. sym (adopt_end a.p (take a.len a.list.now) loop.k _ (simp length-take (omega arith))) ∙ loop.invariant.2 fs
 
 pub adopt_spec : {M : Type 1} → statement M
 adopt_spec =
     tie.close (tie.spec invariant-loop decreases-loop loop-holds (λ c. omega arith) (λ c. omega arith) cast-set-parent set-parent-requires (λ c. omega arith)
-    (λ c. omega arith) loop-again (λ c. c.before.loop-k.invariant.1) returns)
+    (λ c. omega arith) loop-again (λ c. c.loop-k.invariant.1) returns)

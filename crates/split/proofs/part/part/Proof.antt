@@ -28,25 +28,25 @@ start c = c.before.before.before.before
 slice-aggregate-gather : tie.Need-slice_bounds-gather-end
 slice-aggregate-gather c =
     let s = start (kind c.before.before.before.before) in
-    sym (length-take-le s.args.h.ones s.args.h.one-1 (omega (arith, s.requires.halves_in.ones-few, s.requires.halves_in.one_long)))
+    sym (length-take-le s.args.h.ones s.args.h.one-1 (omega (arith, s.requires.1.ones-few, s.requires.1.one_long)))
 
 gather-requires : tie.Need-gather-a-requires
 gather-requires c κs =
     let k = kind c.before.before.before.before in
-    ((start k).requires.floats.0, rw (k.is_leaf-leaf.ensures (start k).args.floats.now) (start k).requires.halves_in.ones_in_lem)
+    ((start k).requires.0.0, rw (k.is_leaf-leaf.ensures (start k).args.floats.now) (start k).requires.1.ones_in_lem)
 
 slice-aggregate-gather-2 : tie.Need-slice_bounds-gather-end-2
 slice-aggregate-gather-2 c =
     let s = start (kind (read c.before.before)) in
-    sym (length-take-le s.args.h.twos s.args.h.two-1 (omega (arith, s.requires.halves_in.twos-few, s.requires.halves_in.two_long)))
+    sym (length-take-le s.args.h.twos s.args.h.two-1 (omega (arith, s.requires.1.twos-few, s.requires.1.two_long)))
 
 gather-requires-2 : tie.Need-gather-b-requires
 gather-requires-2 c κs =
     let k = kind (read c.before.before) in
-    ((start k).requires.floats.0, rw (k.is_leaf-leaf.ensures (start k).args.floats.now) (start k).requires.halves_in.twos_in)
+    ((start k).requires.0.0, rw (k.is_leaf-leaf.ensures (start k).args.floats.now) (start k).requires.1.twos_in)
 
 slice-aggregate-refill : tie.Need-slice_bounds-refill-end
-slice-aggregate-refill c = sym (start (kind (read (first c.before.before.before)))).requires.halves_in.one_long
+slice-aggregate-refill c = sym (start (kind (read (first c.before.before.before)))).requires.1.one_long
 
 refill-requires : tie.Need-refill-requires
 refill-requires c κs =
@@ -56,7 +56,7 @@ refill-requires c κs =
 
 slice-aggregate-append : tie.Need-slice_bounds-append-end
 slice-aggregate-append c =
-    sym (start (kind (read (first (second c.before.before.before.before.before.before.before))))).requires.halves_in.two_long
+    sym (start (kind (read (first (second c.before.before.before.before.before.before.before))))).requires.1.two_long
 
 append-requires : tie.Need-append-requires
 append-requires c κs =
@@ -65,7 +65,7 @@ append-requires c κs =
     let parent = read (first gather2) in
     let s = start (kind parent) in
     let p = s.requires in (
-      (rw refill.refill.auto.1.1.0 p.0.0, rw refill.refill.auto.1.1.1.0 p.0.1, p.0.3, gather2.gather-b.ensures.shaped),
+      (rw refill.refill.auto.floats p.0.0, rw refill.refill.auto.links p.0.1, p.0.3, gather2.gather-b.ensures.shaped),
       (
         parent_fits parent.parent-parent.result (parent.parent-parent.ensures s.args.floats.now) p.1.parent_fits,
         p.1.twos_room,

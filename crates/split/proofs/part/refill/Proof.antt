@@ -10,9 +10,9 @@ use Rattle.split.proofs.part.refill.Tie as tie
 
 returns : tie.Need-returns
 returns c =
-    let set-list = c.before.before.set_list in
-    let put = c.before.before.before.before.before.before.put in
-    let a = c.before.before.before.before.before.before.before.before.before.before.before.args in
+    let set-list = c.set_list in
+    let put = c.put in
+    let a = c.args in
     let ks = take a.len a.list.now in
     set-list.ensures _ ∙ ap (on_node (with_list ks) a.i) (put.ensures a.links.now) ∙ refill_is a.c ks a.i _
 

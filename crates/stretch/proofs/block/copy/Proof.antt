@@ -22,15 +22,15 @@ loop-again : tie.Need-loop-i-preserved invariant-loop decreases-loop
 loop-again c =
     let start = c.before.before.before in (
       omega arith,
-      simp length-set c.before.before.loop-i.invariant.1,
-      ap (λ l. set l c.before.before.loop-i.i
-          (get_or start.args.from.now c.before.before.loop-i.i 0)) c.before.before.loop-i.invariant.2 ∙ copied_turn _ _ _ 0 (omega arith)
+      simp length-set c.loop-i.invariant.1,
+      ap (λ l. set l c.loop-i.i
+          (get_or start.args.from.now c.loop-i.i 0)) c.loop-i.invariant.2 ∙ copied_turn _ _ _ 0 (omega arith)
           (omega arith),
     )
 
 returns : tie.Need-returns invariant-loop decreases-loop
 unfolding copied_to
-returns c = let e : c.before.loop-i.i ≡ c.before.before.args.n = omega arith in c.before.loop-i.invariant.2 ∙ rw e
+returns c = let e : c.loop-i.i ≡ c.args.n = omega arith in c.loop-i.invariant.2 ∙ rw e
 
 pub copy_spec : {M : Type 1} → statement M
 copy_spec =

@@ -15,21 +15,21 @@ copy-requires c κs = (search rules, simp (length-take, length-drop, length-set)
 
 same_length : tie.Need-shape_of-b
 same_length c =
-    let parent-word = c.before.before.before.before.before.parent_word in
-    let kind-word = c.before.before.before.before.kind_word in
+    let parent-word = c.parent_word in
+    let kind-word = c.kind_word in
     let start = c.before.before.before.before.before.before.before.before in
     let b = set (set start.args.b.now 0 parent-word.result) 1 kind-word.result in
-    same_len_mid 2 (length b - 2) b c.before.before.copy.new.1.1.0 c.before.before.copy.auto.1.1.0 ∙ simp length-set
+    same_len_mid 2 (length b - 2) b c.copy.new.1.1.0 c.copy.auto.b ∙ simp length-set
 
 returns : tie.Need-returns
 unfolding put_stretch
 returns c =
-    let parent-word = c.before.before.before.before.before.parent_word in
-    let kind-word = c.before.before.before.before.kind_word in
+    let parent-word = c.parent_word in
+    let kind-word = c.kind_word in
     let start = c.before.before.before.before.before.before.before.before in
     λ p. link_is start.args.s p start.args.parent start.args.leaf start.args.len parent-word.result kind-word.result
-    start.args.b.now c.before.before.copy.new.1.1.0 start.args.list.now start.requires.0 start.requires.1 start.requires.2
-    start.requires.3 parent-word.ensures kind-word.ensures c.before.before.copy.ensures
+    start.args.b.now c.copy.new.1.1.0 start.args.list.now start.requires.0 start.requires.1 start.requires.2
+    start.requires.3 parent-word.ensures kind-word.ensures c.copy.ensures
 
 pub link_spec : {M : Type 1} → statement M
 link_spec =

@@ -9,7 +9,7 @@ use Rattle.stretch.proofs.block.list.Statement.{statement}
 use Rattle.stretch.proofs.block.list.Tie as tie
 
 -- the list is in the block
-fits : (c : tie.After-list_len-len) → 2 + c.list_len-len.result ≤ length c.before.before.args.b.now
+fits : (c : tie.After-list_len-len) → 2 + c.list_len-len.result ≤ length c.args.b.now
 fits c =
     let start = c.before.before in
     let l = list_in start.args.s start.args.b.now start.requires [] in
@@ -18,7 +18,7 @@ fits c =
 returns : tie.Need-returns
 returns c =
     let start = c.before.before.before in
-    λ p. list_part start.args.s start.args.b.now start.requires p c.before.list_len-len.result (c.before.list_len-len.ensures p)
+    λ p. list_part start.args.s start.args.b.now start.requires p c.list_len-len.result (c.list_len-len.ensures p)
 
 pub list_spec : {M : Type 1} → statement M
 list_spec = tie.close

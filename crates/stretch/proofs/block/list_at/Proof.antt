@@ -14,12 +14,12 @@ room c = let l = list_in c.args.s c.args.b.now c.requires.0 [] in omega (arith, 
 
 returns : tie.Need-returns
 returns c = (
-  λ p. sym (list_place c.before.args.s c.before.args.b.now c.before.requires.0 p c.before.args.i (c.before.requires.1 p)),
+  λ p. sym (list_place c.args.s c.args.b.now c.requires.0 p c.args.i (c.requires.1 p)),
   omega
-      (arith, c.shared_slice_known-1.given (2 + c.before.args.i)),
+      (arith, c.shared_slice_known-1.given (2 + c.args.i)),
 )
 
 pub list_at_spec : {M : Type 1} → statement M
 list_at_spec =
     tie.close (tie.spec (λ c. omega (arith, room c)) (λ c. omega (arith, room c)) (λ c. omega (arith, room (c.before)))
-    (λ c. omega (arith, c.shared_slice_known-1.given (2 + c.before.args.i))) returns)
+    (λ c. omega (arith, c.shared_slice_known-1.given (2 + c.args.i))) returns)

@@ -7,7 +7,7 @@ use Rattle.stretch.proofs.block.parent_of.Statement.{statement}
 use Rattle.stretch.proofs.block.parent_of.Tie as tie
 
 cast-t8 : tie.Need-overflow_cast-result
-cast-t8 c = omega (arith, c.before.shared_slice_known-1.given 0)
+cast-t8 c = omega (arith, c.shared_slice_known-1.given 0)
 
 returns : tie.Need-returns-then-word
 unfolding node_in parent_of

@@ -7,11 +7,11 @@ use Rattle.stretch.proofs.block.parent_word.Statement.{statement}
 use Rattle.stretch.proofs.block.parent_word.Tie as tie
 
 cast-result : tie.Need-overflow_cast-result
-cast-result c = let start = c.before.before.before in omega (arith, number_fits start.args.p _ c.before.in-Node.is start.requires)
+cast-result c = let start = c.before in omega (arith, number_fits start.args.p _ c.in-Node.is start.requires)
 
 returns : tie.Need-returns-in-Node
 unfolding parent_of parent_out
-returns c = rw c.before.in-Node.is
+returns c = rw c.in-Node.is
 
 returns-2 : tie.Need-returns-in-NoParent
 unfolding parent_of parent_out

@@ -15,20 +15,20 @@ copy-requires c κs = (search rules, simp (length-take, length-drop, length-set)
 
 same_length : tie.Need-shape_of-b
 same_length c =
-    let kind-word = c.before.before.before.before.kind_word in
-    let start = c.before.before.before.before.before.before.before.before.before in
+    let kind-word = c.kind_word in
+    let start = c.before.before.before.before.before.before.before.before in
     let b = set start.args.b.now 1 kind-word.result in
-    same_len_mid 2 (length b - 2) b c.before.before.copy.new.1.1.0 c.before.before.copy.auto.1.1.0 ∙ simp length-set
+    same_len_mid 2 (length b - 2) b c.copy.new.1.1.0 c.copy.auto.b ∙ simp length-set
 
 returns : tie.Need-returns
 unfolding put_stretch
 returns c =
-    let is_leaf = c.before.before.before.before.before.is_leaf-leaf in
-    let kind-word = c.before.before.before.before.kind_word in
-    let start = c.before.before.before.before.before.before.before.before.before in
+    let is_leaf = c.is_leaf-leaf in
+    let kind-word = c.kind_word in
+    let start = c.before.before.before.before.before.before.before.before in
     λ p. list_is start.args.s p is_leaf.result start.args.len kind-word.result start.args.b.now
-    c.before.before.copy.new.1.1.0 start.args.list.now start.requires.0 start.requires.1 start.requires.2 (is_leaf.ensures p)
-    kind-word.ensures c.before.before.copy.ensures
+    c.copy.new.1.1.0 start.args.list.now start.requires.0 start.requires.1 start.requires.2 (is_leaf.ensures p)
+    kind-word.ensures c.copy.ensures
 
 pub set_list_spec : {M : Type 1} → statement M
 set_list_spec =

@@ -7,9 +7,9 @@ use Rattle.stretch.proofs.slot.between.Tie as tie
 
 returns : tie.Need-returns
 returns c =
-    let gap = c.before.before.before.before.before.before.before.gap-q in
-    let ssd = c.before.before.before.before.before.ssd-u in
-    let ssd2 = c.before.before.before.ssd-v in
+    let gap = c.gap-q in
+    let ssd = c.ssd-u in
+    let ssd2 = c.ssd-v in
     let start = c.before.before.before.before.before.before.before.before.before.before.before.before in
     c.to_summary.ensures ∙ between_parts start.args.s start.requires.0 start.args.p.now start.args.o.now start.requires.1
     start.requires.2 start.args.k _ _ _ gap.ensures ssd.ensures ssd2.ensures

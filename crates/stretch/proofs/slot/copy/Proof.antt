@@ -25,22 +25,22 @@ loop-again : tie.Need-loop-i-preserved invariant-loop decreases-loop
 loop-again c = (
   omega arith,
   elim c.if-i-n.branch [
-    | then-i-n w ↦ ap length w.1 ∙ simp length-set c.before.before.loop-i.invariant.1
-    | else-i-n w ↦ ap length w.1
-        ∙ c.before.before.loop-i.invariant.1
+    | then-i-n w ↦ ap length w.p-is ∙ simp length-set c.loop-i.invariant.1
+    | else-i-n w ↦ ap length w.p-is
+        ∙ c.loop-i.invariant.1
   ],
   elim c.if-i-n.branch [
-    | then-i-n w ↦ w.1 ∙ rw c.before.before.loop-i.invariant.2
+    | then-i-n w ↦ w.p-is ∙ rw c.loop-i.invariant.2
         (sym (up_to_turn _ _ _ _ w.if-i-n.true))
-    | else-i-n w ↦ w.1 ∙ c.before.before.loop-i.invariant.2 ∙ sym (up_to_pass _ _ _ _ w.if-i-n.false)
+    | else-i-n w ↦ w.p-is ∙ c.loop-i.invariant.2 ∙ sym (up_to_pass _ _ _ _ w.if-i-n.false)
   ],
 )
 
 returns : tie.Need-returns invariant-loop decreases-loop
 returns c =
-    c.before.loop-i.invariant.2 ∙ rw (min_end c.before.loop-i.i c.before.before.args.n (omega arith))
-    (up_to-all c.before.before.args.n _ c.before.before.args.p.now
-    (let l : length c.before.before.args.t2 ≡ 8 = search rules in omega arith) (search rules))
+    c.loop-i.invariant.2 ∙ rw (min_end c.loop-i.i c.args.n (omega arith))
+    (up_to-all c.args.n _ c.args.p.now
+    (let l : length c.args.from ≡ 8 = search rules in omega arith) (search rules))
 
 pub copy_spec : {M : Type 1} → statement M
 copy_spec =

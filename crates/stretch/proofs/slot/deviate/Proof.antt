@@ -13,7 +13,7 @@ use Rattle.stretch.proofs.slot.deviate.Tie as tie
 
 slice-aggregate-sq-euclidean : tie.Need-slice_bounds-sq_euclidean-end-in-Spherical
 slice-aggregate-sq-euclidean c =
-    let start = c.before.before.before.before.before in
+    let start = c.before.before.before in
     sym (length-take-le start.args.dim start.args.q.now (omega arith))
 
 sq-euclidean-requires : tie.Need-sq_euclidean-sum-requires
@@ -21,19 +21,19 @@ sq-euclidean-requires c κs = (search rules, search rules, simp length-take (ome
 
 returns : tie.Need-returns-in-Spherical
 returns c =
-    let enum_told = c.before.before.before.enum_told-1 in
+    let enum_told = c.enum_told-1 in
     let start = c.before.before.before.before.before.before.before in
     let a = start.args in
-    deviate_one a.dim a.coef c.before.sq_euclidean-sum.result a.q.now a.x.now c.before.sq_euclidean-sum.ensures ∙ ap
+    deviate_one a.dim a.coef c.sq_euclidean-sum.result a.q.now a.x.now c.sq_euclidean-sum.ensures ∙ ap
     (λ f. take a.dim a.q.now ++ deviated f a.dim a.coef a.q.now (drop a.dim a.q.now) a.x.now) (sym enum_told.given.1)
 
 returns-2 : tie.Need-returns-in-Diagonal
 unfolding deviated
 returns-2 c =
-    let enum-told2 = c.before.before.before.before.enum_told-in-Diagonal-1 in
+    let enum-told2 = c.enum_told-in-Diagonal-1 in
     let start = c.before.before.before.before.before.before.before.before in
     let a = start.args in
-    c.before.before.widen.ensures ∙ widened (added_at a.coef a.q.now (drop a.dim a.q.now) a.x.now) a.dim a.q.now ∙ ap
+    c.widen.ensures ∙ widened (added_at a.coef a.q.now (drop a.dim a.q.now) a.x.now) a.dim a.q.now ∙ ap
     (λ f. take a.dim a.q.now ++ deviated f a.dim a.coef a.q.now (drop a.dim a.q.now) a.x.now) (sym enum-told2.given.1)
 
 pub deviate_spec : {M : Type 1} → statement M

@@ -13,13 +13,13 @@ use Rattle.stretch.proofs.slot.fill.Tie as tie
 returns : tie.Need-returns
 unfolding put_stretch
 returns c =
-    let copy = c.before.before.before.before.before.before.copy in
+    let copy = c.copy in
     let start = c.before.before.before.before.before.before.before.before.before in
     let copied = copy in
     let l : length start.args.from ≡ 8 = search rules in
     fill_parts start.args.n (start.args.n - 0) start.args.p.now start.args.from copied.new.1.1.0
-    c.before.before.zero.new.0 (omega arith) (omega arith) (ap length copied.ensures ∙ length-take-le start.args.n start.args.from
-    (omega arith)) copied.ensures c.before.before.zero.ensures
+    c.zero.new.0 (omega arith) (omega arith) (ap length copied.ensures ∙ length-take-le start.args.n start.args.from
+    (omega arith)) copied.ensures c.zero.ensures
 
 pub fill_spec : {M : Type 1} → statement M
 fill_spec =

@@ -10,18 +10,18 @@ use Rattle.stretch.proofs.slot.load.Tie as tie
 copied-requires-2 : tie.Need-copied-deviation-requires
 copied-requires-2 c κs =
     let start = c.before.before.before.before.before in
-    let slots = c.before.before.before.slots-n in
+    let slots = c.slots-n in
     let few = slots_in_lem start.args.s start.requires.0 in
     let n = slots.ensures in
     (omega arith, simp (length-take, length-drop) (omega arith))
 
 returns : tie.Need-returns
 returns c =
-    let slots = c.before.before.before.before.before.slots-n in
-    let copied = c.before.before.before.copied-mean in
+    let slots = c.slots-n in
+    let copied = c.copied-mean in
     let start = c.before.before.before.before.before.before.before in
     loaded start.args.s start.requires.0 start.args.p.now start.requires.1 _ _ _ slots.ensures copied.ensures
-    c.before.copied-deviation.ensures
+    c.copied-deviation.ensures
 
 pub load_spec : {M : Type 1} → statement M
 load_spec =

@@ -11,12 +11,12 @@ use Rattle.stretch.proofs.slot.merge.Tie as tie
 
 returns : tie.Need-returns
 returns c =
-    let merge = c.before.before.before.before.merge-new in
-    let load = c.before.before.before.before.before.load-old in
-    let start = c.before.before.before.before.before.before.before.before in
+    let merge = c.merge-new in
+    let load = c.load-old in
+    let start = c.before.before.before.before.before.before.before in
     let f = start.args.s.feature in
     let n = start.args.s.dim in
-    ap (summary_in start.args.s) c.before.before.store.ensures ∙ summary_back start.args.s start.requires.0 _
+    ap (summary_in start.args.s) c.store.ensures ∙ summary_back start.args.s start.requires.0 _
     (rw merge.ensures (merged_shaped f n _ _ (rw load.ensures (in_shaped start.args.s start.requires.0 _)) start.requires.2)) ∙ merge.ensures
     ∙ ap (λ x. merged f n x start.args.c) load.ensures
 

@@ -11,21 +11,21 @@ use Rattle.stretch.proofs.slot.push.Tie as tie
 
 same_length : tie.Need-shape_of-p
 same_length c =
-    let deviate = c.before.before.before.before.before.before.deviate in
+    let deviate = c.deviate in
     let start = c.before.before.before.before.before.before.before.before.before.before.before in
     let p = start.args.p.now in
     let first = same_len_mid 1 (length p - 1) p deviate.new.1.1.1.0 deviate.auto.1.1.1.0 in
     let q = put_mid 1 (length p - 1) p deviate.new.1.1.1.0 in
-    length-set (put_mid 1 (1 + start.args.s.dim - 1) q c.before.before.shift.new.1.1.0) 0 _ ∙ same_len_mid 1 (1 + start.args.s.dim - 1)
-    q c.before.before.shift.new.1.1.0 c.before.before.shift.auto.1.1.0 ∙ first
+    length-set (put_mid 1 (1 + start.args.s.dim - 1) q c.shift.new.1.1.0) 0 _ ∙ same_len_mid 1 (1 + start.args.s.dim - 1)
+    q c.shift.new.1.1.0 c.shift.auto.m ∙ first
 
 returns : tie.Need-returns
 unfolding put_stretch
 returns c =
-    let deviate = c.before.before.before.before.before.before.deviate in
+    let deviate = c.deviate in
     let start = c.before.before.before.before.before.before.before.before.before.before.before in
     push_parts start.args.s start.requires.0 start.args.row.now start.args.p.now deviate.new.1.1.1.0
-    c.before.before.shift.new.1.1.0 _ start.requires.1 refl deviate.ensures c.before.before.shift.ensures
+    c.shift.new.1.1.0 _ start.requires.1 refl deviate.ensures c.shift.ensures
 
 pub push_spec : {M : Type 1} → statement M
 push_spec =

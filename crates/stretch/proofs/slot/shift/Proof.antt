@@ -27,20 +27,20 @@ loop-again c =
     let start = c.before.before.before in (
       omega arith,
       elim c.if-i-dim.branch [
-        | then-i-dim w ↦ ap length w.4 ∙ simp length-set c.before.before.loop-i.invariant.1
-        | else-i-dim w ↦ ap length w.1
-            ∙ c.before.before.loop-i.invariant.1
+        | then-i-dim w ↦ ap length w.m-is ∙ simp length-set c.loop-i.invariant.1
+        | else-i-dim w ↦ ap length w.m-is
+            ∙ c.loop-i.invariant.1
       ],
       elim c.if-i-dim.branch [
-        | then-i-dim w ↦ w.4 ∙ shift_turn start.args.factor start.args.dim
-            c.before.before.loop-i.i start.args.m.now start.args.x.now c.before.before.loop-i.m c.before.before.loop-i.invariant.2
+        | then-i-dim w ↦ w.m-is ∙ shift_turn start.args.factor start.args.dim
+            c.loop-i.i start.args.m.now start.args.x.now c.loop-i.m c.loop-i.invariant.2
             w.if-i-dim.true
-        | else-i-dim w ↦ w.1 ∙ c.before.before.loop-i.invariant.2 ∙ sym (up_to_pass _ _ _ _ w.if-i-dim.false)
+        | else-i-dim w ↦ w.m-is ∙ c.loop-i.invariant.2 ∙ sym (up_to_pass _ _ _ _ w.if-i-dim.false)
       ],
     )
 
 returns : tie.Need-returns invariant-loop decreases-loop
-returns c = c.before.loop-i.invariant.2 ∙ rw (min_end c.before.loop-i.i c.before.before.args.dim (omega arith))
+returns c = c.loop-i.invariant.2 ∙ rw (min_end c.loop-i.i c.args.dim (omega arith))
 
 pub shift_spec : {M : Type 1} → statement M
 shift_spec =

@@ -14,19 +14,19 @@ use Rattle.stretch.proofs.slot.store.Tie as tie
 
 -- with its weight and its means written, the slot is as long as it was
 long : (c : tie.After-slice_known-2-1)
-    → length (put_mid 1 (1 + c.before.before.before.before.before.before.before.before.args.s.dim - 1)
-    (set c.before.before.before.before.before.before.before.before.args.p.now 0
-    c.before.before.before.before.before.before.before.before.args.c.weight) c.before.before.copy.new.1.1.0) ≡ length
-    c.before.before.before.before.before.before.before.before.args.p.now
+    → length (put_mid 1 (1 + c.args.s.dim - 1)
+    (set c.args.p.now 0
+    c.args.c.weight) c.copy.new.1.1.0) ≡ length
+    c.args.p.now
 long c =
     let start = c.before.before.before.before.before.before.before.before in
-    same_len_mid 1 (1 + start.args.s.dim - 1) (set start.args.p.now 0 start.args.c.weight) c.before.before.copy.new.1.1.0
-    c.before.before.copy.auto.1.1.0 ∙ length-set start.args.p.now 0 start.args.c.weight
+    same_len_mid 1 (1 + start.args.s.dim - 1) (set start.args.p.now 0 start.args.c.weight) c.copy.new.1.1.0
+    c.copy.auto.p ∙ length-set start.args.p.now 0 start.args.c.weight
 
 fill-requires : tie.Need-fill-requires
 fill-requires c κs =
     let start = c.before.before.before.before.before.before.before.before.before in
-    let slots = c.before.before.before.before.before.before.before.slots-n in
+    let slots = c.slots-n in
     let l = long c.before in
     let few = slots_in_lem start.args.s start.requires.0 in
     let n = slots.ensures in
@@ -34,26 +34,26 @@ fill-requires c κs =
 
 same_length : tie.Need-shape_of-p
 same_length c =
-    let copy = c.before.before.before.before.before.before.copy in
+    let copy = c.copy in
     let start = c.before.before.before.before.before.before.before.before.before.before.before.before in
     let d = start.args.s.dim in
     let q = put_mid 1 (1 + d - 1) (set start.args.p.now 0 start.args.c.weight) copy.new.1.1.0 in
-    same_len_mid (1 + d) (length q - (1 + d)) q c.before.before.fill.new.1.1.0 c.before.before.fill.auto.1.1.0 ∙ long
+    same_len_mid (1 + d) (length q - (1 + d)) q c.fill.new.1.1.0 c.fill.auto.p ∙ long
     c.before.before.before.before
 
 returns : tie.Need-returns
 unfolding put_stretch
 returns c =
-    let slots = c.before.before.before.before.before.before.before.before.before.before.slots-n in
-    let copy = c.before.before.before.before.before.before.copy in
+    let slots = c.slots-n in
+    let copy = c.copy in
     let start = c.before.before.before.before.before.before.before.before.before.before.before.before in
     let few = slots_in_lem start.args.s start.requires.0 in
     let n = slots.ensures in
     let mean : length start.args.c.mean ≡ 8 = search rules in
     let deviation : length start.args.c.deviation ≡ 8 = search rules in
-    store_parts start.args.s start.args.c start.args.p.now copy.new.1.1.0 c.before.before.fill.new.1.1.0 slots.result
+    store_parts start.args.s start.args.c start.args.p.now copy.new.1.1.0 c.fill.new.1.1.0 slots.result
     start.requires.1 (ap length copy.ensures ∙ length-take-le start.args.s.dim start.args.c.mean (omega arith)) copy.ensures n
-    (omega arith) c.before.before.fill.ensures
+    (omega arith) c.fill.ensures
 
 pub store_spec : {M : Type 1} → statement M
 store_spec =

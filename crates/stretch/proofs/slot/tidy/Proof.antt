@@ -9,16 +9,16 @@ use Rattle.stretch.proofs.slot.tidy.Statement.{statement}
 use Rattle.stretch.proofs.slot.tidy.Tie as tie
 
 -- no more deviations are kept than there are channels
-few : (c : tie.After-slots-n) → c.slots-n.result ≤ c.before.before.args.s.dim
-few c = rw c.slots-n.ensures (slots_in_lem c.before.before.args.s c.before.before.requires.0)
+few : (c : tie.After-slots-n) → c.slots-n.result ≤ c.args.s.dim
+few c = rw c.slots-n.ensures (slots_in_lem c.args.s c.requires.0)
 
 returns : tie.Need-returns
 unfolding put_stretch
 returns c =
-    let slots = c.before.before.before.before.slots-n in
+    let slots = c.slots-n in
     let start = c.before.before.before.before.before.before in
-    tidy_slot_lem start.args.s start.requires.0 start.args.p.now c.before.before.zero.new.0 slots.result start.requires.1
-    slots.ensures (few c.before.before.before.before) c.before.before.zero.ensures
+    tidy_slot_lem start.args.s start.requires.0 start.args.p.now c.zero.new.p slots.result start.requires.1
+    slots.ensures (few c.before.before.before.before) c.zero.ensures
 
 pub tidy_spec : {M : Type 1} → statement M
 tidy_spec =

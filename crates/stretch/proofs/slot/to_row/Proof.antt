@@ -7,10 +7,10 @@ use Rattle.stretch.proofs.slot.to_row.Tie as tie
 
 returns : tie.Need-returns
 returns c =
-    let gap = c.before.before.before.before.gap-q in
+    let gap = c.gap-q in
     let start = c.before.before.before.before.before.before.before.before in
     c.to_row.ensures ∙ point_parts start.args.s start.requires.0 start.args.p.now start.requires.1 start.args.k start.args.row.now _
-    _ gap.ensures c.before.before.ssd-v.ensures
+    _ gap.ensures c.ssd-v.ensures
 
 pub to_row_spec : {M : Type 1} → statement M
 to_row_spec =

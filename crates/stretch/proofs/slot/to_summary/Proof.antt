@@ -21,10 +21,10 @@ ssd-requires-2 c κs =
 
 returns : tie.Need-returns
 returns c =
-    let gap = c.before.before.before.before.before.before.gap-q in
-    let ssd = c.before.before.before.before.ssd-u in
+    let gap = c.gap-q in
+    let ssd = c.ssd-u in
     let start = c.before.before.before.before.before.before.before.before.before.before.before.before in
-    c.to_summary.ensures ∙ rw c.before.before.ssd-v.ensures (summary_parts start.args.s start.requires.0 start.args.p.now
+    c.to_summary.ensures ∙ rw c.ssd-v.ensures (summary_parts start.args.s start.requires.0 start.args.p.now
     start.requires.1 start.args.k start.args.c _ _ gap.ensures ssd.ensures)
 
 pub to_summary_spec : {M : Type 1} → statement M

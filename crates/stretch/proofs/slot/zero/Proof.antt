@@ -22,13 +22,13 @@ loop-holds c = (search rules, refl, refl)
 loop-again : tie.Need-loop-i-preserved invariant-loop decreases-loop
 loop-again c = (
   omega arith,
-  simp length-set c.before.loop-i.invariant.1,
-  ap (λ l. set l c.before.loop-i.i f0) c.before.loop-i.invariant.2 ∙ zeroed_turn f0 _ _
+  simp length-set c.loop-i.invariant.1,
+  ap (λ l. set l c.loop-i.i f0) c.loop-i.invariant.2 ∙ zeroed_turn f0 _ _
       (omega arith),
 )
 
 returns : tie.Need-returns invariant-loop decreases-loop
-returns c = c.before.loop-i.invariant.2 ∙ zeroed-all f0 _ _ (omega arith) (omega arith)
+returns c = c.loop-i.invariant.2 ∙ zeroed-all f0 _ _ (omega arith) (omega arith)
 
 pub zero_spec : {M : Type 1} → statement M
 zero_spec =

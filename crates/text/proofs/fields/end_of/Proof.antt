@@ -20,19 +20,19 @@ loop-holds c = (search rules, refl)
 returns : tie.Need-returns-then-line-i-eq9 invariant-loop decreases-loop
 returns c =
     let start = c.before.before.before.before in
-    let loop = c.before.before.before.loop-i in
+    let loop = c.loop-i in
     omega (arith, tab_here start.args.line.now loop.i (omega arith) c.if-line-i-eq9.true, loop.invariant.1)
 
 loop-again : tie.Need-loop-i-preserved invariant-loop decreases-loop
 loop-again c =
     let start = c.before.before.before.before in
-    let loop = c.before.before.before.loop-i in
+    let loop = c.loop-i in
     (omega arith, omega (arith, tab_later start.args.line.now loop.i (omega arith) c.if-line-i-eq9.false, loop.invariant.1))
 
 returns-2 : tie.Need-returns invariant-loop decreases-loop
 returns-2 c =
-    let loop = c.before.loop-i in
-    omega (arith, tab_none c.before.before.args.line.now loop.i (omega arith), loop.invariant.1)
+    let loop = c.loop-i in
+    omega (arith, tab_none c.args.line.now loop.i (omega arith), loop.invariant.1)
 
 pub end_of_spec : {M : Type 1} → statement M
 end_of_spec =

@@ -15,18 +15,18 @@ abbrev decreases-loop : tie.decreases-loop-j
 decreases-loop line k from₀ j₀ from j = k - j
 
 loop-holds : tie.Need-loop-j-init invariant-loop decreases-loop
-loop-holds c = (search rules, search rules, begins_first c.before.args.line.now)
+loop-holds c = (search rules, search rules, begins_first c.args.line.now)
 
 add-from : tie.Need-overflow_add-from invariant-loop decreases-loop
 add-from c =
     let start = c.before.before.before.before in
-    let loop = c.before.before.loop-j in
+    let loop = c.loop-j in
     omega (arith, (begins_next start.args.line.now loop.j loop.from c.end_of_lem.result loop.invariant.2 c.end_of_lem.ensures (omega arith)).0)
 
 loop-again : tie.Need-loop-j-preserved invariant-loop decreases-loop
 loop-again c =
     let start = c.before.before.before.before in
-    let loop = c.before.before.loop-j in
+    let loop = c.loop-j in
     let next = begins_next start.args.line.now loop.j loop.from c.end_of_lem.result loop.invariant.2 c.end_of_lem.ensures (omega arith) in
     (omega arith, omega (arith, next.0), next.1)
 
@@ -39,14 +39,14 @@ part-result-start c = omega (arith, c.end_of-end.ensures)
 part-result-end : tie.Need-slice_bounds-result-end invariant-loop decreases-loop
 part-result-end c =
     let start = c.before.before.before.before in
-    omega (arith, c.end_of-end.ensures, end_in start.args.line.now c.before.before.loop-j.from (omega arith))
+    omega (arith, c.end_of-end.ensures, end_in start.args.line.now c.loop-j.from (omega arith))
 
 returns : tie.Need-returns invariant-loop decreases-loop
 returns c =
     let start = c.before.before.before.before.before in
-    let loop = c.before.before.before.loop-j in
+    let loop = c.loop-j in
     let e : loop.j ≡ start.args.k = omega arith in
-    begins_is start.args.line.now loop.j loop.from c.before.end_of-end.result loop.invariant.2 c.before.end_of-end.ensures
+    begins_is start.args.line.now loop.j loop.from c.end_of-end.result loop.invariant.2 c.end_of-end.ensures
     ∙ rw e
 
 pub field_spec : {M : Type 1} → statement M

@@ -22,8 +22,8 @@ loop-holds c = (search rules, search rules, omega (arith, count_all c.args.line.
 
 loop-again : tie.Need-loop-i-preserved invariant-loop decreases-loop
 loop-again c =
-    let line = c.before.before.before.before.args.line.now in
-    let loop = c.before.before.before.loop-i in
+    let line = c.args.line.now in
+    let loop = c.loop-i in
     elim c.if-line-i-eq9.branch [
       | then-line-i-eq9 w ↦ (omega arith, omega arith, omega (arith, count_here line loop.i (omega arith) w.if-line-i-eq9.true, loop.invariant.2))
       | else-line-i-eq9 w ↦ (omega arith, omega arith, omega (arith, count_later line loop.i (omega arith) w.if-line-i-eq9.false, loop.invariant.2))
@@ -31,8 +31,8 @@ loop-again c =
 
 returns : tie.Need-returns invariant-loop decreases-loop
 returns c =
-    let loop = c.before.loop-i in
-    omega (arith, count_end c.before.before.args.line.now loop.i (omega arith), loop.invariant.2)
+    let loop = c.loop-i in
+    omega (arith, count_end c.args.line.now loop.i (omega arith), loop.invariant.2)
 
 pub field_count_spec : {M : Type 1} → statement M
 field_count_spec =

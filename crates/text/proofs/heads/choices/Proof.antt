@@ -10,16 +10,16 @@ use Rattle.text.proofs.heads.choices.Tie as tie
 returns : tie.Need-returns-in_default
 unfolding ChoicesRead
 returns c =
-    let word = c.before.before.feature_word.ensures ∙ ap (λ l. word_told (feature_word l)) c.before.before.before.field.ensures in
+    let word = c.feature_word.ensures ∙ ap (λ l. word_told (feature_word l)) c.field.ensures in
     no_feature _ (word_none _ (sym word ∙ c.in_default.is))
 
 returns-2 : tie.Need-returns-in_default-distance
 unfolding ChoicesRead
-returns-2 c = no_dist _ (word_none _ (sym c.before.before.distance.ensures ∙ c.in_default-distance.is))
+returns-2 c = no_dist _ (word_none _ (sym c.distance.ensures ∙ c.in_default-distance.is))
 
 returns-3 : tie.Need-returns-in_default-distance-2
 unfolding ChoicesRead
-returns-3 c = no_abs _ (word_none _ (sym c.before.before.distance-2.ensures ∙ c.in_default-distance-2.is))
+returns-3 c = no_abs _ (word_none _ (sym c.distance-2.ensures ∙ c.in_default-distance-2.is))
 
 -- where a word is read, and those before it
 abbrev second : tie.In-Is-distance-2 → tie.In-Is-distance
@@ -32,10 +32,10 @@ returns-4 : tie.Need-returns
 unfolding ChoicesRead
 returns-4 c =
     let at = (first c).before.before.before in
-    let word = at.feature_word.ensures ∙ ap (λ l. word_told (feature_word l)) at.before.field.ensures in (
-      word_some _ _ (sym word ∙ (first c).before.in-Is.is),
-      word_some _ _ (sym (second c).before.before.before.distance.ensures ∙ (second c).before.in-Is-distance.is),
-      word_some _ _ (sym c.before.before.before.distance-2.ensures ∙ c.before.in-Is-distance-2.is),
+    let word = at.feature_word.ensures ∙ ap (λ l. word_told (feature_word l)) at.field.ensures in (
+      word_some _ _ (sym word ∙ (first c).in-Is.is),
+      word_some _ _ (sym (second c).distance.ensures ∙ (second c).in-Is-distance.is),
+      word_some _ _ (sym c.distance-2.ensures ∙ c.in-Is-distance-2.is),
     )
 
 pub choices_spec : {M : Type 1} → statement M

@@ -7,7 +7,7 @@ use Rattle.text.proofs.heads.distance.Statement.{statement}
 use Rattle.text.proofs.heads.distance.Tie as tie
 
 returns : tie.Need-returns
-returns c = c.distance_word.ensures ∙ ap (λ l. word_told (distance_word l)) c.before.field.ensures
+returns c = c.distance_word.ensures ∙ ap (λ l. word_told (distance_word l)) c.field.ensures
 
 pub distance_spec : {M : Type 1} → statement M
 distance_spec = tie.close (tie.spec (λ c κs. search rules) (λ c κs. search rules) returns)

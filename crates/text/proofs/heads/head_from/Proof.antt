@@ -9,16 +9,16 @@ use Rattle.text.proofs.heads.head_from.Tie as tie
 
 returns : tie.Need-returns-in_default
 unfolding first_told
-returns c = ap first_told (sym (sizes_none _ _ c.before.before.sizes.ensures c.in_default.is))
+returns c = ap first_told (sym (sizes_none _ _ c.sizes.ensures c.in_default.is))
 
 returns-2 : tie.Need-returns-in_default-choices
 unfolding first_told
-returns-2 c = ap first_told (sym (choices_none _ _ c.before.before.choices.ensures c.in_default-choices.is))
+returns-2 c = ap first_told (sym (choices_none _ _ c.choices.ensures c.in_default-choices.is))
 
 returns-3 : tie.Need-returns-in_default-hex_float
 unfolding first_told
 returns-3 c =
-    let float = c.before.before.hex_float.ensures ∙ ap (λ l. real_told (hex_float l)) c.before.before.before.field.ensures in
+    let float = c.hex_float.ensures ∙ ap (λ l. real_told (hex_float l)) c.field.ensures in
     ap first_told (sym (no_threshold _ (real_none _ (sym float ∙ c.in_default-hex_float.is))))
 
 -- where the threshold is read, the choices, the sizes
@@ -34,11 +34,11 @@ sized c = (chosen c).before.before.before.before
 returns-4 : tie.Need-returns
 returns-4 c =
     let at = (read c).before.before.before in
-    let float = at.hex_float.ensures ∙ ap (λ l. real_told (hex_float l)) at.before.field.ensures in
-    c.true.ensures ∙ ap (λ h. first_told (taken h)) c.before.new.ensures ∙ ap first_told (sym (head-is _ _ _ _ _ _ _ _ _
-    (subst (SizesRead _) (sized c).before.in-Are.is (sized c).before.before.before.sizes.ensures)
-    (subst (ChoicesRead _) (chosen c).before.in-Are-choices.is (chosen c).before.before.before.choices.ensures)
-    (real_some _ _ (sym float ∙ (read c).before.in-Is.is))))
+    let float = at.hex_float.ensures ∙ ap (λ l. real_told (hex_float l)) at.field.ensures in
+    c.true.ensures ∙ ap (λ h. first_told (taken h)) c.new.ensures ∙ ap first_told (sym (head-is _ _ _ _ _ _ _ _ _
+    (subst (SizesRead _) (sized c).in-Are.is (sized c).sizes.ensures)
+    (subst (ChoicesRead _) (chosen c).in-Are-choices.is (chosen c).choices.ensures)
+    (real_some _ _ (sym float ∙ (read c).in-Is.is))))
 
 pub head_from_spec : {M : Type 1} → statement M
 head_from_spec =

@@ -7,7 +7,7 @@ use Rattle.text.proofs.heads.number.Statement.{statement}
 use Rattle.text.proofs.heads.number.Tie as tie
 
 returns : tie.Need-returns
-returns c = c.decimal.ensures ∙ ap (λ l. number_told (few (decimal l))) c.before.field.ensures
+returns c = c.decimal.ensures ∙ ap (λ l. number_told (few (decimal l))) c.field.ensures
 
 pub number_spec : {M : Type 1} → statement M
 number_spec = tie.close (tie.spec (λ c κs. search rules) (λ c κs. search rules) returns)

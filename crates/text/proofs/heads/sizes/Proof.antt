@@ -8,19 +8,19 @@ use Rattle.text.proofs.heads.sizes.Tie as tie
 
 returns : tie.Need-returns-in_default
 unfolding SizesRead
-returns c = no_dim _ (number_none _ (sym c.before.before.number.ensures ∙ c.in_default.is))
+returns c = no_dim _ (number_none _ (sym c.number.ensures ∙ c.in_default.is))
 
 returns-2 : tie.Need-returns-in_default-number
 unfolding SizesRead
-returns-2 c = no_branching _ (number_none _ (sym c.before.before.number-2.ensures ∙ c.in_default-number.is))
+returns-2 c = no_branching _ (number_none _ (sym c.number-2.ensures ∙ c.in_default-number.is))
 
 returns-3 : tie.Need-returns-in_default-number-2
 unfolding SizesRead
-returns-3 c = no_leaf-cap _ (number_none _ (sym c.before.before.number-3.ensures ∙ c.in_default-number-2.is))
+returns-3 c = no_leaf-cap _ (number_none _ (sym c.number-3.ensures ∙ c.in_default-number-2.is))
 
 returns-4 : tie.Need-returns-in_default-number-3
 unfolding SizesRead
-returns-4 c = no_most _ (number_none _ (sym c.before.before.number-4.ensures ∙ c.in_default-number-3.is))
+returns-4 c = no_most _ (number_none _ (sym c.number-4.ensures ∙ c.in_default-number-3.is))
 
 -- where a number is read, and those before it
 abbrev third : tie.In-Is-number-3 → tie.In-Is-number-2
@@ -35,10 +35,10 @@ first c = (second c).before.before.before.before
 returns-5 : tie.Need-returns
 unfolding SizesRead
 returns-5 c = (
-  few-some _ _ (number_some _ _ (sym (first c).before.before.before.number.ensures ∙ (first c).before.in-Is.is)),
-  few-some _ _ (number_some _ _ (sym (second c).before.before.before.number-2.ensures ∙ (second c).before.in-Is-number.is)),
-  few-some _ _ (number_some _ _ (sym (third c).before.before.before.number-3.ensures ∙ (third c).before.in-Is-number-2.is)),
-  few-some _ _ (number_some _ _ (sym c.before.before.before.number-4.ensures ∙ c.before.in-Is-number-3.is)),
+  few-some _ _ (number_some _ _ (sym (first c).number.ensures ∙ (first c).in-Is.is)),
+  few-some _ _ (number_some _ _ (sym (second c).number-2.ensures ∙ (second c).in-Is-number.is)),
+  few-some _ _ (number_some _ _ (sym (third c).number-3.ensures ∙ (third c).in-Is-number-2.is)),
+  few-some _ _ (number_some _ _ (sym c.number-4.ensures ∙ c.in-Is-number-3.is)),
 )
 
 pub sizes_spec : {M : Type 1} → statement M

@@ -10,17 +10,17 @@ use Rattle.text.proofs.heads.true.Tie as tie
 
 returns : tie.Need-returns-then-h-gt24
 unfolding first_told
-returns c = ap first_told (sym (too_many c.before.before.args.h (omega arith)))
+returns c = ap first_told (sym (too_many c.args.h (omega arith)))
 
 returns-2 : tie.Need-returns-then-not-is_allowed
 unfolding first_told
-returns-2 c = ap first_told (sym (not-allowed _ (sym c.before.is_allowed.ensures ∙ not-true _ c.if-not-is_allowed.true-raw)))
+returns-2 c = ap first_told (sym (not-allowed _ (sym c.is_allowed.ensures ∙ not-true _ c.if-not-is_allowed.true-raw)))
 
 returns-3 : tie.Need-returns
 unfolding first_told
 returns-3 c =
-    let h = c.before.before.before.before.args.h in
-    ap first_told (sym (is-taken h (omega arith) (sym c.before.is_allowed.ensures ∙ not-false _ c.if-not-is_allowed.false-raw)))
+    let h = c.args.h in
+    ap first_told (sym (is-taken h (omega arith) (sym c.is_allowed.ensures ∙ not-false _ c.if-not-is_allowed.false-raw)))
 
 pub taken_spec : {M : Type 1} → statement M
 taken_spec = tie.close (tie.spec returns (λ c κs. search rules) returns-2 returns-3)

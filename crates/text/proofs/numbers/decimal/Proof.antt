@@ -11,16 +11,16 @@ unfolding number_told few
 returns c = ap (λ o. number_told (few o)) (sym (decimal-none _ c.if-field-eq0.true))
 
 returns-2 : tie.Need-returns-then-field-eq1
-returns-2 c = c.of_tens.ensures ∙ ap (λ o. number_told (few o)) (sym (decimal-one _ c.before.if-field-eq1.true))
+returns-2 c = c.of_tens.ensures ∙ ap (λ o. number_told (few o)) (sym (decimal-one _ c.if-field-eq1.true))
 
 returns-3 : tie.Need-returns-then-field-eq48
 unfolding number_told few
-returns-3 c = ap (λ o. number_told (few o)) (sym (decimal_padded _ c.before.before.before.if-field-eq0.false c.before.before.if-field-eq1.false c.if-field-eq48.true))
+returns-3 c = ap (λ o. number_told (few o)) (sym (decimal_padded _ c.if-field-eq0.false c.if-field-eq1.false c.if-field-eq48.true))
 
 returns-4 : tie.Need-returns
 returns-4 c =
-    c.of_tens-2.ensures ∙ ap (λ o. number_told (few o)) (sym (decimal_more _ c.before.before.before.before.if-field-eq0.false
-    c.before.before.before.if-field-eq1.false c.before.if-field-eq48.false))
+    c.of_tens-2.ensures ∙ ap (λ o. number_told (few o)) (sym (decimal_more _ c.if-field-eq0.false
+    c.if-field-eq1.false c.if-field-eq48.false))
 
 pub decimal_spec : {M : Type 1} → statement M
 decimal_spec =

@@ -14,15 +14,15 @@ returns c = ap real_told (sym (real_short _ c.if-field-ne16.true))
 returns-2 : tie.Need-returns-in_default
 unfolding real_told
 returns-2 c =
-    let no = number_none _ (sym c.before.before.of_sixteens.ensures ∙ c.in_default.is) in
-    ap real_told (sym (real_none _ no c.before.before.before.if-field-ne16.false))
+    let no = number_none _ (sym c.of_sixteens.ensures ∙ c.in_default.is) in
+    ap real_told (sym (real_none _ no c.if-field-ne16.false))
 
 returns-3 : tie.Need-returns
 unfolding real_told
 returns-3 c =
     let at = c.before.before.before.before in
-    let bits = number_some _ _ (sym at.of_sixteens.ensures ∙ c.before.before.in-Is.is) in
-    ap R.Is c.of_bits.ensures ∙ ap real_told (sym (real_is _ _ bits at.before.if-field-ne16.false))
+    let bits = number_some _ _ (sym at.of_sixteens.ensures ∙ c.in-Is.is) in
+    ap R.Is c.of_bits.ensures ∙ ap real_told (sym (real_is _ _ bits at.if-field-ne16.false))
 
 pub hex_float_spec : {M : Type 1} → statement M
 hex_float_spec =

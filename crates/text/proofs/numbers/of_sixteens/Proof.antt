@@ -22,9 +22,9 @@ abbrev turn : tie.After-wide invariant-loop decreases-loop → tie.At-loop-i inv
 turn c = c.before.before.before.before.before.before.before
 
 -- the digit at i
-is : (c : tie.After-wide invariant-loop decreases-loop) → hex_digit (get_or (turn c).before.before.args.field.now (turn c).loop-i.i 0) ≡ some c.wide.result
+is : (c : tie.After-wide invariant-loop decreases-loop) → hex_digit (get_or (turn c).args.field.now (turn c).loop-i.i 0) ≡ some c.wide.result
 is c =
-    digit-some _ _ (sym c.before.before.before.before.hex_digit.ensures ∙ c.before.before.in-Is.is) ∙ ap some (sym c.wide.ensures)
+    digit-some _ _ (sym c.hex_digit.ensures ∙ c.in-Is.is) ∙ ap some (sym c.wide.ensures)
 
 loop-holds : tie.Need-loop-i-init invariant-loop decreases-loop
 unfolding sixteens
@@ -33,12 +33,12 @@ loop-holds c = (search rules, omega arith, refl)
 returns : tie.Need-returns-in_default invariant-loop decreases-loop
 unfolding number_told
 returns c =
-    let loop = c.before.before.before.before.before.loop-i in
-    let no = digit-none _ (sym c.before.before.hex_digit.ensures ∙ c.in_default.is) in
+    let loop = c.loop-i in
+    let no = digit-none _ (sym c.hex_digit.ensures ∙ c.in_default.is) in
     ap number_told (sym (read_stop hex_digit 16 _ loop.i loop.n (omega arith) no) ∙ loop.invariant.2)
 
 mul-n : tie.Need-overflow_mul-n invariant-loop decreases-loop
-mul-n c = omega (arith, sixteens_fit c.before.before.before.before.before.before.loop-i.i (omega arith))
+mul-n c = omega (arith, sixteens_fit c.loop-i.i (omega arith))
 
 add-n : tie.Need-overflow_add-n invariant-loop decreases-loop
 add-n c = omega (arith, hex_small _ _ (is c), sixteens_fit (turn c).loop-i.i (omega arith))
@@ -54,7 +54,7 @@ loop-again c =
 returns-2 : tie.Need-returns invariant-loop decreases-loop
 unfolding number_told
 returns-2 c =
-    let loop = c.before.loop-i in
+    let loop = c.loop-i in
     ap number_told (sym (read_end hex_digit 16 _ loop.i loop.n (omega arith)) ∙ loop.invariant.2)
 
 pub of_sixteens_spec : {M : Type 1} → statement M

@@ -23,11 +23,11 @@ abbrev turn : tie.After-wide invariant-loop decreases-loop → tie.At-loop-i inv
 turn c = c.before.before.before.before.before.before.before
 
 abbrev text : tie.After-wide invariant-loop decreases-loop → List ℕ
-text c = (turn c).before.before.args.field.now
+text c = (turn c).args.field.now
 
 -- the digit at i
 is : (c : tie.After-wide invariant-loop decreases-loop) → digit (get_or (text c) (turn c).loop-i.i 0) ≡ some c.wide.result
-is c = digit-some _ _ (sym c.before.before.before.before.digit.ensures ∙ c.before.before.in-Is.is) ∙ ap some (sym c.wide.ensures)
+is c = digit-some _ _ (sym c.digit.ensures ∙ c.in-Is.is) ∙ ap some (sym c.wide.ensures)
 
 more : (c : tie.After-wide invariant-loop decreases-loop)
     → number_from digit 10 ((turn c).loop-i.n * 10 + c.wide.result) (drop ((turn c).loop-i.i + 1) (text c)) ≡ number_from digit 10 0 (text c)
@@ -39,8 +39,8 @@ loop-holds c = (search rules, search rules, refl)
 returns : tie.Need-returns-in_default invariant-loop decreases-loop
 unfolding number_told few
 returns c =
-    let loop = c.before.before.before.before.before.loop-i in
-    let no = digit-none _ (sym c.before.before.digit.ensures ∙ c.in_default.is) in
+    let loop = c.loop-i in
+    let no = digit-none _ (sym c.digit.ensures ∙ c.in_default.is) in
     ap (λ o. number_told (few o)) (sym (read_stop digit 10 _ loop.i loop.n (omega arith) no) ∙ loop.invariant.2)
 
 add-n : tie.Need-overflow_add-n invariant-loop decreases-loop
@@ -56,7 +56,7 @@ loop-again c = (omega arith, omega arith, more c.before)
 returns-3 : tie.Need-returns invariant-loop decreases-loop
 unfolding number_told
 returns-3 c =
-    let loop = c.before.loop-i in
+    let loop = c.loop-i in
     ap number_told (sym (few-is loop.n loop.invariant.1) ∙ ap few (sym (read_end digit 10 _ loop.i loop.n (omega arith)) ∙ loop.invariant.2))
 
 pub of_tens_spec : {M : Type 1} → statement M

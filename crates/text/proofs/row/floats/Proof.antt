@@ -21,24 +21,24 @@ loop-holds c = (search rules, refl, front_none _ _)
 
 returns : tie.Need-returns-in_default invariant-loop decreases-loop
 returns c =
-    let loop = c.before.before.before.before.before.loop-k in
-    let float = c.before.before.hex_float.ensures ∙ ap (λ l. real_told (hex_float l)) c.before.before.before.field.ensures in
+    let loop = c.loop-k in
+    let float = c.hex_float.ensures ∙ ap (λ l. real_told (hex_float l)) c.field.ensures in
     none_read _ _ _ _ (floats_stop _ loop.k (omega arith) (real_none _ (sym float ∙ c.in_default.is)))
 
 loop-again : tie.Need-loop-k-preserved invariant-loop decreases-loop
 loop-again c =
     let at = c.before.before.before in
-    let loop = at.before.before.before.loop-k in
-    let float = at.hex_float.ensures ∙ ap (λ l. real_told (hex_float l)) at.before.field.ensures in (
+    let loop = at.loop-k in
+    let float = at.hex_float.ensures ∙ ap (λ l. real_told (hex_float l)) at.field.ensures in (
       omega arith,
       simp length-set loop.invariant.1,
-      front_more _ _ _ loop.k _ loop.invariant.2 (omega arith) (omega arith) (real_some _ _ (sym float ∙ c.before.in-Is.is)),
+      front_more _ _ _ loop.k _ loop.invariant.2 (omega arith) (omega arith) (real_some _ _ (sym float ∙ c.in-Is.is)),
     )
 
 returns-2 : tie.Need-returns invariant-loop decreases-loop
 returns-2 c =
-    let loop = c.before.loop-k in
-    front_all _ _ _ loop.k _ loop.invariant.2 (omega arith) c.before.before.before.before.requires.0
+    let loop = c.loop-k in
+    front_all _ _ _ loop.k _ loop.invariant.2 (omega arith) c.requires.0
 
 pub floats_spec : {M : Type 1} → statement M
 floats_spec =

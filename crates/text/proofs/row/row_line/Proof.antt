@@ -7,17 +7,17 @@ use Rattle.text.proofs.row.row_line.Statement.{statement}
 use Rattle.text.proofs.row.row_line.Tie as tie
 
 returns : tie.Need-returns-then-line-gt200
-returns c = none_read _ _ _ _ (floats_long c.before.before.before.args.line.now (omega arith))
+returns c = none_read _ _ _ _ (floats_long c.args.line.now (omega arith))
 
 returns-2 : tie.Need-returns-then-field_count-dim
 returns-2 c =
-    let line = c.before.before.before.before.before.args.line.now in
-    other_read line _ _ _ (omega arith) (λ e. c.if-field_count-dim.true (c.before.field_count.ensures ∙ e))
+    let line = c.args.line.now in
+    other_read line _ _ _ (omega arith) (λ e. c.if-field_count-dim.true (c.field_count.ensures ∙ e))
 
 returns-3 : tie.Need-returns
 returns-3 c =
-    let line = c.before.before.before.before.before.before.before.before.before.args.line.now in
-    short_read line _ _ _ _ (omega arith) c.before.before.floats.ensures
+    let line = c.args.line.now in
+    short_read line _ _ _ _ (omega arith) c.floats.ensures
 
 pub row_line_spec : {M : Type 1} → statement M
 row_line_spec =

@@ -23,18 +23,18 @@ loop-holds c = (search rules, same-all _ _ 0)
 
 returns-2 : tie.Need-returns-then-a-i invariant-loop decreases-loop
 returns-2 c =
-    let loop = c.before.before.before.before.loop-i in
+    let loop = c.loop-i in
     sym (loop.invariant.1 ∙ same_other _ _ loop.i (omega arith) (omega arith) c.if-a-i.true)
 
 loop-again : tie.Need-loop-i-preserved invariant-loop decreases-loop
 loop-again c =
-    let loop = c.before.before.before.before.loop-i in
+    let loop = c.loop-i in
     (omega arith, loop.invariant.1 ∙ same_more _ _ loop.i (omega arith) (omega arith) c.if-a-i.false)
 
 returns-3 : tie.Need-returns invariant-loop decreases-loop
 returns-3 c =
-    let loop = c.before.loop-i in
-    sym (loop.invariant.1 ∙ same_end _ _ loop.i (omega arith) c.before.before.if-a-b.false)
+    let loop = c.loop-i in
+    sym (loop.invariant.1 ∙ same_end _ _ loop.i (omega arith) c.if-a-b.false)
 
 pub is_spec : {M : Type 1} → statement M
 is_spec =

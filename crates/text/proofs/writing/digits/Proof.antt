@@ -21,13 +21,13 @@ loop-holds c = (search rules, refl, refl)
 letter-requires : tie.Need-letter-requires invariant-loop decreases-loop
 letter-requires c κs =
     let start = c.before.before.before in
-    let below : c.before.loop-i.rest % start.args.base < start.args.base = mod-lt _ (omega arith) in
+    let below : c.loop-i.rest % start.args.base < start.args.base = mod-lt _ (omega arith) in
     omega (arith, below)
 
 loop-again : tie.Need-loop-i-preserved invariant-loop decreases-loop
 loop-again c =
     let start = c.before.before.before.before in
-    let loop = c.before.before.loop-i in (
+    let loop = c.loop-i in (
       omega arith,
       simp length-set loop.invariant.1,
       ap (λ b. stored (loop.i - 1) start.args.base (loop.rest / start.args.base) start.args.at
@@ -37,7 +37,7 @@ loop-again c =
 returns : tie.Need-returns invariant-loop decreases-loop
 returns c =
     let start = c.before.before.before in
-    let loop = c.before.loop-i in
+    let loop = c.loop-i in
     sym (stored_end loop.i start.args.base loop.rest start.args.at _ (omega arith)) ∙ loop.invariant.2
     ∙ stored-written start.args.k start.args.base start.args.n start.args.at _ (omega arith)
 

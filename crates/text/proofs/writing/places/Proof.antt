@@ -18,15 +18,15 @@ loop-holds : tie.Need-loop-k-init invariant-loop decreases-loop
 loop-holds c = (omega arith, omega arith)
 
 returns : tie.Need-returns-then-rest-lt10 invariant-loop decreases-loop
-returns c = let loop = c.before.before.loop-k in omega (arith, places_last loop.k loop.rest (omega arith), loop.invariant.1)
+returns c = let loop = c.loop-k in omega (arith, places_last loop.k loop.rest (omega arith), loop.invariant.1)
 
 loop-again : tie.Need-loop-k-preserved invariant-loop decreases-loop
 loop-again c =
-    let loop = c.before.before.loop-k in
+    let loop = c.loop-k in
     (omega arith, omega (arith, places_more loop.k loop.rest (omega arith) (omega arith), loop.invariant.1))
 
 returns-2 : tie.Need-returns invariant-loop decreases-loop
-returns-2 c = let loop = c.before.loop-k in omega (arith, places_end loop.k loop.rest (omega arith), loop.invariant.1)
+returns-2 c = let loop = c.loop-k in omega (arith, places_end loop.k loop.rest (omega arith), loop.invariant.1)
 
 pub places_spec : {M : Type 1} → statement M
 places_spec = tie.close (tie.spec invariant-loop decreases-loop loop-holds returns (λ c. search rules) (λ c. search rules) loop-again returns-2)

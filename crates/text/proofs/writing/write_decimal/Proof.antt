@@ -10,18 +10,18 @@ use Rattle.text.proofs.writing.write_decimal.Statement.{statement}
 use Rattle.text.proofs.writing.write_decimal.Tie as tie
 
 digits-requires : tie.Need-digits-requires
-digits-requires c κs = (omega arith, omega arith, omega (arith, c.before.places-k.ensures, decimal-length c.before.before.before.args.n))
+digits-requires c κs = (omega arith, omega arith, omega (arith, c.places-k.ensures, decimal-length c.args.n))
 
 add-result : tie.Need-overflow_add-result
 add-result c =
-    omega (arith, c.before.before.before.before.places-k.ensures, decimal-length c.before.before.before.before.before.before.args.n)
+    omega (arith, c.places-k.ensures, decimal-length c.args.n)
 
 returns : tie.Need-returns
 unfolding decimal_of
 returns c =
     let start = c.before.before.before.before.before.before in
-    let places = c.before.before.before.before.places-k in (
-      c.before.before.digits.ensures ∙ ap (λ k. written start.args.at (digits_of k 10 start.args.n []) start.args.out.now) places.ensures,
+    let places = c.places-k in (
+      c.digits.ensures ∙ ap (λ k. written start.args.at (digits_of k 10 start.args.n []) start.args.out.now) places.ensures,
       ap (λ k. start.args.at + k) (places.ensures ∙ sym (decimal-length start.args.n)),
     )
 

@@ -12,8 +12,8 @@ returns : tie.Need-returns
 unfolding hex_of
 returns c =
     let start = c.before.before.before.before.before.before in (
-      c.before.before.digits.ensures
-          ∙ ap (λ b. written start.args.at (digits_of 16 16 b []) start.args.out.now) c.before.before.before.before.bits_of.ensures,
+      c.digits.ensures
+          ∙ ap (λ b. written start.args.at (digits_of 16 16 b []) start.args.out.now) c.bits_of.ensures,
       ap (λ k. start.args.at + k) (sym (hex_length start.args.x)),
     )
 

@@ -6,7 +6,7 @@ use Rattle.tour.proofs.depths.put.Tie as tie
 
 returns : tie.Need-returns-then-there
 unfolding put_in
-returns c = rw c.before.if-there.true c.add.ensures
+returns c = rw c.if-there.true c.add.ensures
 
 returns-2 : tie.Need-returns-else-there
 unfolding put_in

@@ -23,41 +23,41 @@ lent c = lending c.args.floats.now c.args.links.now c.args.scratch.now c.args.nu
 abbrev start : tie.After-scratch_links_needed-sl → tie.Start
 start c = c.before.before.before.before.before.before.before.before.before.before
 
-floats : (c : tie.After-scratch_links_needed-sl) → c.before.before.before.floats_needed-f.result - 0 ≡ floats_needed (settings_of (start c).args.h)
-floats c = sub-zero _ ∙ rw c.before.before.before.before.settings-s.ensures at c.before.before.before.floats_needed-f.ensures
+floats : (c : tie.After-scratch_links_needed-sl) → c.floats_needed-f.result - 0 ≡ floats_needed (settings_of (start c).args.h)
+floats c = sub-zero _ ∙ rw c.settings-s.ensures at c.floats_needed-f.ensures
 
-floats-end : (c : tie.After-scratch_links_needed-sl) → c.before.before.before.floats_needed-f.result - 0 ≤ length (start c).args.floats.now
-floats-end c = rw (floats c) (start c).requires.ready.0.floats_room
+floats-end : (c : tie.After-scratch_links_needed-sl) → c.floats_needed-f.result - 0 ≤ length (start c).args.floats.now
+floats-end c = rw (floats c) (start c).requires.0.0.floats_room
 
-links : (c : tie.After-scratch_links_needed-sl) → c.before.before.links_needed-l.result - 0 ≡ links_needed (settings_of (start c).args.h)
-links c = sub-zero _ ∙ rw c.before.before.before.before.settings-s.ensures at c.before.before.links_needed-l.ensures
+links : (c : tie.After-scratch_links_needed-sl) → c.links_needed-l.result - 0 ≡ links_needed (settings_of (start c).args.h)
+links c = sub-zero _ ∙ rw c.settings-s.ensures at c.links_needed-l.ensures
 
-links_end : (c : tie.After-scratch_links_needed-sl) → c.before.before.links_needed-l.result - 0 ≤ length (start c).args.links.now
-links_end c = rw (links c) (start c).requires.ready.0.links_room
+links_end : (c : tie.After-scratch_links_needed-sl) → c.links_needed-l.result - 0 ≤ length (start c).args.links.now
+links_end c = rw (links c) (start c).requires.0.0.links_room
 
-scratch : (c : tie.After-scratch_links_needed-sl) → c.before.scratch_floats_needed-sf.result - 0 ≡ scratch_floats_needed (settings_of (start c).args.h)
-scratch c = sub-zero _ ∙ rw c.before.before.before.before.settings-s.ensures at c.before.scratch_floats_needed-sf.ensures
+scratch : (c : tie.After-scratch_links_needed-sl) → c.scratch_floats_needed-sf.result - 0 ≡ scratch_floats_needed (settings_of (start c).args.h)
+scratch c = sub-zero _ ∙ rw c.settings-s.ensures at c.scratch_floats_needed-sf.ensures
 
-scratch-end : (c : tie.After-scratch_links_needed-sl) → c.before.scratch_floats_needed-sf.result - 0 ≤ length (start c).args.scratch.now
-scratch-end c = rw (scratch c) (start c).requires.ready.0.scratch_floats_room
+scratch-end : (c : tie.After-scratch_links_needed-sl) → c.scratch_floats_needed-sf.result - 0 ≤ length (start c).args.scratch.now
+scratch-end c = rw (scratch c) (start c).requires.0.0.scratch_floats_room
 
 numbers : (c : tie.After-scratch_links_needed-sl) → c.scratch_links_needed-sl.result - 0 ≡ scratch_links_needed (settings_of (start c).args.h)
-numbers c = sub-zero _ ∙ rw c.before.before.before.before.settings-s.ensures at c.scratch_links_needed-sl.ensures
+numbers c = sub-zero _ ∙ rw c.settings-s.ensures at c.scratch_links_needed-sl.ensures
 
 numbers-end : (c : tie.After-scratch_links_needed-sl) → c.scratch_links_needed-sl.result - 0 ≤ length (start c).args.numbers.now
-numbers-end c = rw (numbers c) (start c).requires.ready.0.scratch_links_room
+numbers-end c = rw (numbers c) (start c).requires.0.0.scratch_links_room
 
 floats-needed-requires : tie.Need-floats_needed-f-requires
-floats-needed-requires c κs = rw c.settings-s.ensures (sized _ _ c.before.before.before.before.before.before.requires.ready.0)
+floats-needed-requires c κs = rw c.settings-s.ensures (sized _ _ c.requires.0.0)
 
 links-needed-requires : tie.Need-links_needed-l-requires
-links-needed-requires c κs = rw c.before.settings-s.ensures (sized _ _ c.before.before.before.before.before.before.before.requires.ready.0)
+links-needed-requires c κs = rw c.settings-s.ensures (sized _ _ c.requires.0.0)
 
 scratch-floats-needed-requires : tie.Need-scratch_floats_needed-sf-requires
-scratch-floats-needed-requires c κs = rw c.before.before.settings-s.ensures (sized _ _ c.before.before.before.before.before.before.before.before.requires.ready.0)
+scratch-floats-needed-requires c κs = rw c.settings-s.ensures (sized _ _ c.requires.0.0)
 
 scratch-links-needed-requires : tie.Need-scratch_links_needed-sl-requires
-scratch-links-needed-requires c κs = rw c.before.before.before.settings-s.ensures (sized _ _ c.before.before.before.before.before.before.before.before.before.requires.ready.0)
+scratch-links-needed-requires c κs = rw c.settings-s.ensures (sized _ _ c.requires.0.0)
 
 part-perform-tidily-end : tie.Need-slice_bounds-perform_tidily-end
 part-perform-tidily-end c = let e = floats-end c in omega arith
@@ -76,11 +76,11 @@ perform-tidily-requires c κs =
     let sizes = c.before.before.before.before in
     let start = c.before.before.before.before.before.before.before.before.before.before.before.before.before.before in
     let h = start.args.h in
-    let ready = start.requires.ready.0 in
-    rw c.before.before.before.before.before.before.before.before.settings-s.ensures (
+    let ready = start.requires.0.0 in
+    rw c.settings-s.ensures (
       fronts h (lent start) ready (length-take-le _ _ (floats-end sizes) ∙ floats sizes) (length-take-le _ _ (links_end sizes) ∙ links sizes)
           (length-take-le _ _ (scratch-end sizes) ∙ scratch sizes) (length-take-le _ _ (numbers-end sizes) ∙ numbers sizes),
-      (start.requires.ready.1, rw (cut h (lent start) ready (floats sizes) (links sizes)) start.requires.workable),
+      (start.requires.0.1, rw (cut h (lent start) ready (floats sizes) (links sizes)) start.requires.1),
     )
 
 returns : tie.Need-returns
@@ -89,10 +89,10 @@ returns c =
     let start = c.before.before.before.before.before.before.before.before.before.before.before.before.before.before.before.before.before.before.before.before.before.before.before.before in
     let a = start.args in
     let s = settings_of a.h in
-    let new = c.before.before.before.before.before.before.before.before.before.perform_tidily-n in
-    let tree = cut a.h (lent start) start.requires.ready.0 (floats sizes) (links sizes) in
+    let new = c.perform_tidily-n in
+    let tree = cut a.h (lent start) start.requires.0.0 (floats sizes) (links sizes) in
     left-whole a.h (lent start) (worked a.w s (rows_of a.count s.dim a.rows.now) (lent_tree a.h a.floats.now a.links.now))
-    (rw tree at (rw c.before.before.before.before.before.before.before.before.before.before.before.before.before.before.before.before.before.before.settings-s.ensures at new.ensures)) c.with_counters.ensures
+    (rw tree at (rw c.settings-s.ensures at new.ensures)) c.with_counters.ensures
     (new.auto.1.1.0 ∙ length-take-le _ _ (floats-end sizes)) (new.auto.1.1.1.0 ∙ length-take-le _ _ (links_end sizes))
     (new.auto.1.1.1.1.0 ∙ length-take-le _ _ (scratch-end sizes)) (new.auto.1.1.1.1.1.0 ∙ length-take-le _ _ (numbers-end sizes))
 

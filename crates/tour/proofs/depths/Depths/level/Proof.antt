@@ -19,32 +19,32 @@ unfolding levelled
 returns c = rw (le-ltb _ 256 c.if-self-ge256.true)
 
 loop-holds : tie.Need-loop-d-init invariant-loop decreases-loop
-loop-holds c = (omega arith, passed_none (level_at c.before.before.args.self))
+loop-holds c = (omega arith, passed_none (level_at c.args.self))
 
 returns-2 : tie.Need-returns-then-not-level_at invariant-loop decreases-loop
 unfolding levelled
 returns-2 c =
     let start = c.before.before.before.before.before.before.before in
-    let loop = c.before.before.before.before.loop-d in
-    rw (lt-ltb _ 256 c.before.before.before.before.before.if-self-ge256.false)
-    (fails_at (level_at start.args.self) (suc start.args.self.deepest) loop.d (omega (arith, c.before.before.loop-d-test.true)) c.before.level_at.ensures
-    (not-true c.before.level_at.result c.if-not-level_at.true-raw))
+    let loop = c.loop-d in
+    rw (lt-ltb _ 256 c.if-self-ge256.false)
+    (fails_at (level_at start.args.self) (suc start.args.self.deepest) loop.d (omega (arith, c.loop-d-test.true)) c.level_at.ensures
+    (not-true c.level_at.result c.if-not-level_at.true-raw))
 
 loop-again : tie.Need-loop-d-preserved invariant-loop decreases-loop
 loop-again c =
     let start = c.before.before.before.before.before.before.before in
-    let loop = c.before.before.before.before.loop-d in (
-      omega (arith, c.before.before.loop-d-test.true),
-      passed_more (level_at start.args.self) loop.d loop.invariant.1 c.before.level_at.ensures
-          (not-false c.before.level_at.result c.if-not-level_at.false-raw),
+    let loop = c.loop-d in (
+      omega (arith, c.loop-d-test.true),
+      passed_more (level_at start.args.self) loop.d loop.invariant.1 c.level_at.ensures
+          (not-false c.level_at.result c.if-not-level_at.false-raw),
     )
 
 returns-3 : tie.Need-returns invariant-loop decreases-loop
 unfolding levelled
 returns-3 c =
     let start = c.before.before.before.before.before in
-    let loop = c.before.before.loop-d in
-    rw (lt-ltb _ 256 c.before.before.before.if-self-ge256.false)
+    let loop = c.loop-d in
+    rw (lt-ltb _ 256 c.if-self-ge256.false)
     (passed_all (level_at start.args.self) (suc start.args.self.deepest) loop.d loop.invariant.1 (omega (arith, c.loop-d-test.false)))
 
 pub level_spec : {M : Type 1} → statement M

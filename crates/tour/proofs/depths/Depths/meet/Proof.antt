@@ -7,8 +7,8 @@ use Rattle.tour.proofs.depths.Depths.meet.Tie as tie
 returns : tie.Need-returns
 unfolding met
 returns c =
-    let is-fork = c.before.before.is_fork in
-    rw (c.before.before.before.before.put.ensures, c.before.before.before.put-2.ensures, ← is-fork.ensures, c.before.put-3.ensures, c.deeper.ensures)
+    let is-fork = c.is_fork in
+    rw (c.put.ensures, c.put-2.ensures, ← is-fork.ensures, c.put-3.ensures, c.deeper.ensures)
 
 pub meet_spec : {M : Type 1} → statement M
 meet_spec = tie.close (tie.spec (λ c κs. search rules) (λ c κs. search rules) (λ c κs. search rules) (λ c κs. search rules) (λ c κs. search rules) returns)

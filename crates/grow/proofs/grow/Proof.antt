@@ -27,7 +27,7 @@ leaf : (c : tie.After-descend-leaf) → c.descend-leaf.result ≡ leaf_for (tree
 leaf c = c.descend-leaf.ensures.value ∙ ap (λ i. leaf_for (tree (start c)) i.near) (item_row (start c).args.s (start c).args.row.now)
 
 path : (c : tie.After-feed_path)
-    → tree_of (start (found c)).args.s (start (found c)).args.n c.feed_path.new.1.1.0 (start (found c)).args.links.now
+    → tree_of (start (found c)).args.s (start (found c)).args.n c.feed_path.new.floats (start (found c)).args.links.now
     ≡ along_path (push (start (found c)).args.s (start (found c)).args.row.now) (found c).descend-leaf.result (tree (start (found c)))
 path c =
     let a = (start (found c)).args in

@@ -38,7 +38,7 @@ leaf : (c : tie.After-descend-leaf) → c.descend-leaf.result ≡ leaf_for (tree
 leaf c = c.descend-leaf.ensures.value ∙ ap (λ i. leaf_for (tree (start c)) i.near) (item_slot (start c).args.s (start c).args.x.now)
 
 path : (c : tie.After-feed_path)
-    → tree_of (start (found c)).args.s (start (found c)).args.n c.feed_path.new.1.1.0 (start (found c)).args.links.now
+    → tree_of (start (found c)).args.s (start (found c)).args.n c.feed_path.new.floats (start (found c)).args.links.now
     ≡ along_path (λ d. merge (start (found c)).args.s d (summary (start (found c)))) (found c).descend-leaf.result (tree (start (found c)))
 path c =
     let a = (start (found c)).args in
@@ -46,20 +46,20 @@ path c =
 
 place : (c : tie.After-feed_path)
     → Place (start (found c)).args.s (start (found c)).args.n (found c).descend-leaf.result
-    (tree_of (start (found c)).args.s (start (found c)).args.n c.feed_path.new.1.1.0 (start (found c)).args.links.now)
+    (tree_of (start (found c)).args.s (start (found c)).args.n c.feed_path.new.floats (start (found c)).args.links.now)
 place c =
     let down = found c in
     let a = (start down).args in
     entry_place a.s a.n a.floats.now _ a.links.now (summary (start down)) _ (start down).requires.1 (leaf down) down.descend-leaf.ensures.upper_bound (path c)
 
 listed : (c : tie.After-begin-m)
-    → tree_of (start (found (fed c))).args.s c.begin-m.result c.begin-m.new.1.1.0 c.begin-m.new.1.1.1.0
+    → tree_of (start (found (fed c))).args.s c.begin-m.result c.begin-m.new.floats c.begin-m.new.links
     ≡ begun (found (fed c)).descend-leaf.result (summary (start (found (fed c))))
-    (tree_of (start (found (fed c))).args.s (start (found (fed c))).args.n (fed c).feed_path.new.1.1.0 (start (found (fed c))).args.links.now)
+    (tree_of (start (found (fed c))).args.s (start (found (fed c))).args.n (fed c).feed_path.new.floats (start (found (fed c))).args.links.now)
 listed c =
     let a = (start (found (fed c))).args in
     c.begin-m.ensures.links_after
-    ∙ ap (λ e. begun (found (fed c)).descend-leaf.result e (tree_of a.s a.n (fed c).feed_path.new.1.1.0 a.links.now)) c.load.ensures
+    ∙ ap (λ e. begun (found (fed c)).descend-leaf.result e (tree_of a.s a.n (fed c).feed_path.new.floats a.links.now)) c.load.ensures
 
 floats : (c : tie.After-begin-m) {k : ℕ} → k ≡ length (start (found (fed c))).args.floats.now → Floats (start (found (fed c))).args.s c.begin-m.result k
 floats c q =

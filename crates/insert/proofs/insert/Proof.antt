@@ -39,7 +39,7 @@ rebuild-requires c κs =
     let start = start grown in
     let a = start.args in
     let grow = grown.grow-m in (
-      (rw grow.auto.1.1.0 grow.ensures.0.0, rw grow.auto.1.1.1.0 grow.ensures.0.1, start.requires.0.2),
+      (rw grow.auto.floats grow.ensures.0.0, rw grow.auto.links grow.ensures.0.1, start.requires.0.2),
       rw grow.ensures.1 (rest_rebuilds a.s a.row.now (tree start) start.requires.1.1 start.requires.0.0.sized (rw (entries grown) test.true)),
     )
 

@@ -82,12 +82,12 @@ loop-again c =
     let a = start.args in
     let l = turn.loop-k in
     let new = c.insert-m in (
-      rw new.auto.1.1.0 new.ensures.0.0,
-      rw new.auto.1.1.1.0 new.ensures.0.1,
-      new.auto.1.1.0 ∙ l.invariant.2,
-      new.auto.1.1.1.0 ∙ l.invariant.3,
-      new.auto.1.1.1.1.0 ∙ l.invariant.4,
-      new.auto.1.1.1.1.1.0 ∙ l.invariant.5,
+      rw new.auto.floats new.ensures.0.0,
+      rw new.auto.links new.ensures.0.1,
+      new.auto.floats ∙ l.invariant.2,
+      new.auto.links ∙ l.invariant.3,
+      new.auto.scratch ∙ l.invariant.4,
+      new.auto.numbers ∙ l.invariant.5,
       batch-next a.s a.rows.now a.count (tree start) l.invariant.6 start.requires.0.0.sized more.true
           (new.ensures.1 ∙ ap (λ x. inserted a.s x (tree_of a.s l.m l.floats l.links)) row.ensures),
     )

@@ -40,7 +40,7 @@ byte-requires c κs =
     let start = copy.before.before.before.before.before.before.before.before in
     let a = start.args in
     let new = copy.copy-next in
-    (rw new.auto.1.1.0 start.requires.0, new.ensures.1.reading a.floats.now a.links.now start.requires.1.0)
+    (rw new.auto.line start.requires.0, new.ensures.1.reading a.floats.now a.links.now start.requires.1.0)
 
 add-t13 : tie.Need-overflow_add-result
 add-t13 c =

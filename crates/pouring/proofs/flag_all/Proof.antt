@@ -38,7 +38,7 @@ loop-again c =
     let more = flagged.loop-i-test.true in
     let loop = flagged.loop-i in
     let used = flagged.flag_used in
-    let long = used.auto.1.1.1.0 ∙ loop.invariant.1 in
+    let long = used.auto.numbers ∙ loop.invariant.1 in
     elim c.if-not-flag_used.branch [
       | then-not-flag_used w ↦ (
         omega arith,

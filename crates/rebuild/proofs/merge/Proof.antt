@@ -30,7 +30,7 @@ merge-by-requires c κs =
     let start = start paired in
     let a = start.args in
     let near = paired.sibling_pairs-near in (
-      (start.requires.0.0, start.requires.0.1, rw (near.auto.1.1.1.1.0, near.auto.1.1.1.1.1.0) start.requires.0.2),
+      (start.requires.0.0, start.requires.0.1, rw (near.auto.costs, near.auto.numbers) start.requires.0.2),
       record {
         tree = start.requires.1;
         pairs_few = near.ensures.1;
@@ -52,7 +52,7 @@ cousin-pairs-requires c κs =
     let start = start paired in
     let near = paired.sibling_pairs-near in (
       (start.requires.0.0, start.requires.0.1, tree_framed start.args.s (tree start) start.requires.1),
-      rw (near.auto.1.1.1.1.0, near.auto.1.1.1.1.1.0) (pairs_room start.args.s start.requires.0.2),
+      rw (near.auto.costs, near.auto.numbers) (pairs_room start.args.s start.requires.0.2),
     )
 
 merge-by-requires-2 : tie.Need-merge_by-requires-2
@@ -66,7 +66,7 @@ merge-by-requires-2 c κs =
       (
         start.requires.0.0,
         start.requires.0.1,
-        rw (far.auto.1.1.1.1.0, far.auto.1.1.1.1.1.0, near.kept.1.1.1.1.0, near.kept.1.1.1.1.1.0)
+        rw (far.auto.costs, far.auto.numbers, near.kept.1.1.1.1.0, near.kept.1.1.1.1.1.0)
             start.requires.0.2,
       ),
       record {

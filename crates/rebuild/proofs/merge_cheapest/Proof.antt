@@ -24,7 +24,7 @@ merge-pairs-requires c κs =
     let all = start.requires.0.1.numbers_in in
     let entries = start.requires.0.0.entries_in in
     let first = paired.sort.auto.numbers in
-    let second = revive.auto.0 in (
+    let second = revive.auto.numbers in (
       (start.requires.0.0, omega arith, omega arith),
       sorted-below start.args.s start.args.n _ start.args.pairs _ _ _ paired.sort.ensures revive.ensures.1 start.requires.1.1,
     )

@@ -25,9 +25,9 @@ refold-requires c κs =
     let done = merged.merge-m in
     let stands = merged-standing s (tree start) start.requires.1 start.requires.0.0.sized in (
       (
-        rw done.auto.1.1.0 done.ensures.0.0,
-        rw done.auto.1.1.1.0 done.ensures.0.1,
-        rw done.auto.1.1.1.1.0 start.requires.0.2.floats_in_lem,
+        rw done.auto.floats done.ensures.0.0,
+        rw done.auto.links done.ensures.0.1,
+        rw done.auto.scratch start.requires.0.2.floats_in_lem,
       ),
       rw done.ensures.1 stands,
     )

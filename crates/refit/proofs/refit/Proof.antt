@@ -60,9 +60,9 @@ refold-requires c κs =
     let a = start.args in
     let done = rounds.rounds-m in (
       (
-        rw done.auto.1.1.0 done.ensures.0.0,
-        rw done.auto.1.1.1.0 done.ensures.0.1,
-        rw done.auto.1.1.1.1.0 start.requires.0.2.floats_in_lem,
+        rw done.auto.floats done.ensures.0.0,
+        rw done.auto.links done.ensures.0.1,
+        rw done.auto.scratch start.requires.0.2.floats_in_lem,
       ),
       rounds_standing a.s a.count a.rows.now (tree start) a.n.entries start.requires.0.0.sized (pourable tests) (sym (entries start))
           (omega (arith, tests.if-n-eq0.false)) start.requires.0.0.entries_in done.ensures.1,

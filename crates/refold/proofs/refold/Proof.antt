@@ -106,13 +106,13 @@ same_length : tie.Need-shape_of-floats-in_default invariant-loop decreases-loop
 same_length c =
     let loop = c.loop-left in
     let refold-node = c.refold_node in
-    refold-node.auto.1.1.0 ∙ loop.invariant.3
+    refold-node.auto.floats ∙ loop.invariant.3
 
 same-length-2 : tie.Need-shape_of-scratch-in_default invariant-loop decreases-loop
 same-length-2 c =
     let loop = c.loop-left in
     let refold-node = c.refold_node in
-    refold-node.auto.1.1.1.1.1.0 ∙ loop.invariant.4
+    refold-node.auto.scratch ∙ loop.invariant.4
 
 returns : tie.Need-returns-in_default invariant-loop decreases-loop
 returns c =
@@ -152,8 +152,8 @@ loop-again c =
       q.rest,
       subst (λ i. Backward (tree start) i q.rest) (sym (c.before-i.ensures start.args.floats.now q.k q.place q.here)) q.before,
       omega (arith, q.fewer, l.invariant.2),
-      refold-node.auto.1.1.0 ∙ l.invariant.3,
-      refold-node.auto.1.1.1.1.1.0 ∙ l.invariant.4,
+      refold-node.auto.floats ∙ l.invariant.3,
+      refold-node.auto.scratch ∙ l.invariant.4,
       ap (refold_all start.args.s q.rest) refold-node.ensures ∙ q.one _ ∙ l.invariant.5,
     )
 

@@ -62,8 +62,8 @@ returns c =
     let ls = a.links.now in
     let r = a.n.nodes in (
       c.with_root.ensures ∙ ap (root_at r) append.append-r.ensures.value,
-      ap (λ m. tree_of a.s m append.append-r.new.1.1.0 append.append-r.new.1.1.1.0) c.with_root.ensures
-          ∙ tree-rooted a.s append.append-r.result r append.append-r.new.1.1.0 append.append-r.new.1.1.1.0
+      ap (λ m. tree_of a.s m append.append-r.new.floats append.append-r.new.links) c.with_root.ensures
+          ∙ tree-rooted a.s append.append-r.result r append.append-r.new.floats append.append-r.new.links
           ∙ crown_is a.s a.i a.j r (tree_of a.s a.n fs ls) (count_nodes_lem a.s a.n fs ls) (gather.gather-c.ensures.any_links ls)
           (first.set_parent.ensures fs) (second.set_parent-2.ensures fs) append.append-r.ensures.links_after,
     )

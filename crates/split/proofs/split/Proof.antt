@@ -78,7 +78,7 @@ returns-2 c =
     let fs = a.floats.now in
     let ls = a.links.now in (
       part.part-r.ensures.value,
-      adopt.adopt.ensures part.part-r.new.1.1.0 ∙ ap (adopted_by a.n.nodes (twos h.groups-h.result)) part.part-r.ensures.links_after
+      adopt.adopt.ensures part.part-r.new.floats ∙ ap (adopted_by a.n.nodes (twos h.groups-h.result)) part.part-r.ensures.links_after
           ∙ split-inner a.s a.i h.groups-h.result (tree_of a.s a.n fs ls) h.groups-h.ensures (count_nodes_lem a.s a.n fs ls)
           (sym ((kind h).is_leaf-leaf.ensures fs) ∙ inner.if-leaf.false),
     )

@@ -152,7 +152,7 @@ append-requires c κs =
     let small = caps_small s loop.m _ loop.inv.2 in
     let below = below_more s loop.m r e up.0 in (
       (more-links split split.split-m.auto.links, below, omega (arith, (steps p).room)),
-      spare_any s r split.split-m.new.1.1.0 split.split-m.new.1.1.1.0 _ below split.split-m.ensures.links_after up.1,
+      spare_any s r split.split-m.new.floats split.split-m.new.links _ below split.split-m.ensures.links_after up.1,
     )
 
 loop-again : tie.Need-loop-left-preserved invariant-loop decreases-loop
@@ -168,7 +168,7 @@ loop-again c =
     let e = split.split-m.ensures.value in
     let above = parent_some p.parent-above.result (p.parent-above.ensures loop.floats) some.in-Node.is in
     let up = (steps p).up _ above in
-    let listed = append.append.ensures split.split-m.new.1.1.0 in
+    let listed = append.append.ensures split.split-m.new.floats in
     let links_kept = append.append.auto.links ∙ split.split-m.auto.links in
     let count = count_nodes_lem s loop.m loop.floats loop.links in (
       split.split-m.auto.floats ∙ loop.inv.0,

@@ -14,14 +14,14 @@ tidy-all-requires : tie.Need-tidy_all-requires
 tidy-all-requires c κs =
     let start = c.before.before.before.before.before.before.before.before.before.before.before.before.before.before.before.before.before.before.before.before.before.before in
     let new = c.perform-m in
-    all_fronts start.requires.0 new.auto.1.1.0 new.auto.1.1.1.0 new.auto.1.1.1.1.0 new.auto.1.1.1.1.1.0 new.ensures.0.0
+    all_fronts start.requires.0 new.auto.floats new.auto.links new.auto.scratch new.auto.numbers new.ensures.0.0
     new.ensures.0.1
 
 returns : tie.Need-returns
 returns c =
     let tidy = c.tidy_all in
     let new = c.perform-m in
-    subst (λ t. AllLeft c.args.s t new.result tidy.new.1.1.0 tidy.new.1.1.1.0 tidy.new.1.1.1.1.0 tidy.new.1.1.1.1.1.0)
+    subst (λ t. AllLeft c.args.s t new.result tidy.new.floats tidy.new.links tidy.new.scratch tidy.new.numbers)
     new.ensures.1 tidy.ensures
 
 pub perform_tidily_spec : {M : Type 1} → statement M

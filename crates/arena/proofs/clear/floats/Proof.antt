@@ -22,13 +22,13 @@ rooms c =
 -- with the nodes' slots tidied, the slice is as long as it was
 long : (c : tie.After-slice_known-2-1)
     → length (put_mid 0 (c.node_cap.result * c.slot_width.result - 0)
-    c.args.floats.now c.slots.new.1.1.0) ≡ length
+    c.args.floats.now c.slots.new.p) ≡ length
     c.args.floats.now
 long c =
     let node-cap = c.node_cap in
     let slot-width = c.slot_width in
     let start = c.before.before.before.before.before.before.before in
-    same_len_mid 0 (node-cap.result * slot-width.result - 0) start.args.floats.now c.slots.new.1.1.0
+    same_len_mid 0 (node-cap.result * slot-width.result - 0) start.args.floats.now c.slots.new.p
     c.slots.auto.p
 
 slots-requires : tie.Need-slots-requires
@@ -53,8 +53,8 @@ returns c =
     let start = c.before.before.before.before.before.before.before.before.before.before.before in
     let end = node-cap.result * slot-width.result in
     λ ls. floats_tidied start.args.s start.args.n start.args.floats.now ls _ start.requires.0 start.requires.1 end (end - 0)
-    slots.new.1.1.0 c.slots-2.new.1.1.0 (rooms c.before.before.before.before.before.before.before.before).end
-    (omega arith) slots.auto.1.1.0 slots.ensures c.slots-2.ensures
+    slots.new.p c.slots-2.new.p (rooms c.before.before.before.before.before.before.before.before).end
+    (omega arith) slots.auto.p slots.ensures c.slots-2.ensures
 
 pub floats_spec : {M : Type 1} → statement M
 floats_spec =

@@ -41,7 +41,7 @@ returns c =
     λ fs. node_relinked s start.args.n fs start.args.links.now _ (adding start.args.k) start.args.i start.requires.0.1
     (block_put s start.args.links.now start.args.i block-width.result
     (node_block start.args.s start.args.n _ start.args.i start.requires.0.0 start.requires.0.1) block-width.ensures
-    (adding start.args.k) c.append.new.1.1.0 c.append.auto.b
+    (adding start.args.k) c.append.new.b c.append.auto.b
     c.append.ensures)
 
 pub append_spec : {M : Type 1} → statement M

@@ -35,7 +35,7 @@ returns c =
     let s = start.args.s in
     block_put s start.args.links.now start.args.i block-width.result start.requires.0 block-width.ensures
     (relinked (parent_of start.args.parent) start.args.leaf (take start.args.len start.args.list.now))
-    c.link.new.1.1.1.1.1.0 c.link.auto.b
+    c.link.new.b c.link.auto.b
     (λ p. c.link.ensures p ∙ linked-is s p _ _ _ _)
 
 pub link_spec : {M : Type 1} → statement M

@@ -37,7 +37,7 @@ returns c =
     λ fs. node_relinked s start.args.n fs start.args.links.now _ (with_list (take start.args.len start.args.list.now))
     start.args.i start.requires.1 (block_put s start.args.links.now start.args.i block-width.result
     (node_block start.args.s start.args.n _ start.args.i start.requires.0 start.requires.1) block-width.ensures
-    (with_list (take start.args.len start.args.list.now)) c.set_list.new.1.1.1.0
+    (with_list (take start.args.len start.args.list.now)) c.set_list.new.b
     c.set_list.auto.b c.set_list.ensures)
 
 pub set_list_spec : {M : Type 1} → statement M

@@ -36,7 +36,7 @@ returns c =
     λ fs. node_relinked s start.args.n fs start.args.links.now _ (under start.args.p) start.args.i start.requires.1
     (block_put s start.args.links.now start.args.i block-width.result
     (node_block start.args.s start.args.n _ start.args.i start.requires.0 start.requires.1) block-width.ensures (under start.args.p)
-    c.set_parent.new.1.1.0 c.set_parent.auto.b c.set_parent.ensures)
+    c.set_parent.new.b c.set_parent.auto.b c.set_parent.ensures)
 
 pub set_parent_spec : {M : Type 1} → statement M
 set_parent_spec =

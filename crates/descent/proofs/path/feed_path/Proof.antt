@@ -60,7 +60,7 @@ loop-again c =
     let up = sym (a_parent _ _ c.in-Node.is) in (
       parent_there _ _ _ _ old.requires.1.0 loop.i loop.inv.0 _
           (sym (parent.parent.ensures old.args.floats.now) ∙ sym up),
-      feed.auto.1.1.0 ∙ loop.inv.1,
+      feed.auto.floats ∙ loop.inv.1,
       up_on _ loop.left loop.i _ _ _ (omega arith) (feed.ensures _) (up ∙ parent.parent.ensures loop.floats) ∙ loop.inv.2,
     )
 

@@ -53,10 +53,10 @@ returns c =
     let sizes = c.before.before.before.before.before.before.before.before in
     let new = c.empty-n in
     let settings = c.settings-s.ensures in
-    let empty : TreeLeft (settings_of a.h) (fresh a.h.counters.running.threshold) new.result new.new.1.1.0 new.new.1.1.1.0 =
+    let empty : TreeLeft (settings_of a.h) (fresh a.h.counters.running.threshold) new.result new.new.floats new.new.links =
     rw settings at new.ensures in
     made-whole a.h a.floats.now a.links.now empty c.with_counters.ensures
-    (new.auto.1.1.0 ∙ length-take-le _ _ (floats-end sizes)) (new.auto.1.1.1.0 ∙ length-take-le _ _ (links_end sizes))
+    (new.auto.floats ∙ length-take-le _ _ (floats-end sizes)) (new.auto.links ∙ length-take-le _ _ (links_end sizes))
 
 pub create_spec : {M : Type 1} → statement M
 create_spec = tie.close (tie.spec (λ c κs. search rules) floats-needed-requires links-needed-requires (λ c. search rules) (λ c. search rules) part-empty-end (λ c. search rules) (λ c. search rules) part-empty-end-2 empty-requires (λ c κs. search rules) (λ c. search rules) (λ c. search rules) returns)

@@ -25,7 +25,7 @@ tidy-requires c κs =
     let clear = c.clear-m in
     let s = (start made).args.s in
     let n = made.new.result in
-    tree_fronts (new made) clear.auto.1.1.0 clear.auto.1.1.1.0 (floats-cleared s n _ clear.ensures.0 (new made).floats_in_lem)
+    tree_fronts (new made) clear.auto.floats clear.auto.links (floats-cleared s n _ clear.ensures.0 (new made).floats_in_lem)
     (links_cleared s n _ clear.ensures.0 (new made).links_in)
 
 returns : tie.Need-returns
@@ -35,7 +35,7 @@ returns c =
     let tidy = c.tidy in
     let a = (start made).args in
     let empty = new-cleared a.s (start made).requires.0 made.new.result a.threshold made.new.ensures a.floats.now a.links.now in
-    subst (λ t. TreeLeft a.s t clear.clear-m.result tidy.new.1.1.0 tidy.new.1.1.1.0) (clear.clear-m.ensures.links_after ∙ empty) tidy.ensures
+    subst (λ t. TreeLeft a.s t clear.clear-m.result tidy.new.floats tidy.new.links) (clear.clear-m.ensures.links_after ∙ empty) tidy.ensures
 
 pub empty_spec : {M : Type 1} → statement M
 empty_spec = tie.close (tie.spec (λ c κs. search rules) clear-requires tidy-requires (λ c. search rules) (λ c. search rules) returns)

@@ -37,7 +37,7 @@ loop-again c =
     let test = c.loop-i-test.true in
     let keep-entry = c.keep_entry in
     let l = c.loop-i in
-    (keep-entry.auto.1.1.0 ∙ l.invariant.0, moves_turn _ _ _ _ _ _ _ l.invariant.1 _ test keep-entry.ensures)
+    (keep-entry.auto.floats ∙ l.invariant.0, moves_turn _ _ _ _ _ _ _ l.invariant.1 _ test keep-entry.ensures)
 
 same_length : tie.Need-shape_of-floats invariant-loop decreases-loop
 same_length c = c.loop-i.invariant.0

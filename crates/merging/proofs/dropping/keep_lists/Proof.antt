@@ -39,7 +39,7 @@ loop-again : tie.Need-loop-i-preserved invariant-loop decreases-loop
 loop-again c =
     let keep-list = c.keep_list in
     let l = c.loop-i in
-    (keep-list.auto.1.1.0 ∙ l.invariant.0, prunes_turn _ _ _ _ _ _ l.invariant.1 _ keep-list.ensures)
+    (keep-list.auto.links ∙ l.invariant.0, prunes_turn _ _ _ _ _ _ l.invariant.1 _ keep-list.ensures)
 
 same_length : tie.Need-shape_of-links invariant-loop decreases-loop
 same_length c = c.loop-i.invariant.0

@@ -30,7 +30,7 @@ loop-again c =
     let more = c.loop-i-test.true in
     let number-one = c.number_one-kept in
     let l = c.loop-i in
-    (omega (arith, more), number-one.auto.0 ∙ l.invariant.1, numbering_turn _ _ _ _ _ l.invariant.2 _ _ more number-one.ensures)
+    (omega (arith, more), number-one.auto.numbers ∙ l.invariant.1, numbering_turn _ _ _ _ _ l.invariant.2 _ _ more number-one.ensures)
 
 same_length : tie.Need-shape_of-numbers invariant-loop decreases-loop
 same_length c = c.loop-i.invariant.1

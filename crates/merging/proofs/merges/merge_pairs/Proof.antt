@@ -60,8 +60,8 @@ loop-again c =
     let test = c.if-m-most.false in
     let merge-pair = c.merge_pair-m in
     let l = c.loop-k in (
-      merge-pair.auto.1.1.0 ∙ l.invariant.0,
-      merge-pair.auto.1.1.1.0 ∙ l.invariant.1,
+      merge-pair.auto.floats ∙ l.invariant.0,
+      merge-pair.auto.numbers ∙ l.invariant.1,
       midway_turn _ _ _ _ _ _ _ _ _ _ l.invariant.2 _ _ _ more test merge-pair.ensures,
     )
 

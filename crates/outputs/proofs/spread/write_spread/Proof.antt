@@ -69,8 +69,8 @@ loop-again c =
     let piece = spread_of a.s.feature d in
     let cut : loop.i * d + d - loop.i * d ≡ d = omega arith in (
       (let more = c.loop-i-test.true in omega arith),
-      same_len_mid (loop.i * d) (loop.i * d + d - loop.i * d) loop.out new.new.1.1.1.1.0 new.auto.1.1.1.1.0 ∙ loop.invariant.1,
-      rw cut (piece_turn (piece_of a.s a.n a.floats.now piece d) d loop.i a.out.now loop.out new.new.1.1.1.1.0
+      same_len_mid (loop.i * d) (loop.i * d + d - loop.i * d) loop.out new.new.out new.auto.out ∙ loop.invariant.1,
+      rw cut (piece_turn (piece_of a.s a.n a.floats.now piece d) d loop.i a.out.now loop.out new.new.out
           (λ j l. pieces start j (let few = loop.invariant.0 in omega arith)) loop.invariant.2 (new.ensures [])),
     )
 

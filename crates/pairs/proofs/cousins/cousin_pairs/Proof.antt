@@ -54,8 +54,8 @@ loop-again c =
     let l = c.loop-i in (
       omega (arith, test.true),
       omega (arith, under_more t l.i, l.invariant.1, push-cousins.ensures.1),
-      push-cousins.auto.1.1.1.1.1.0 ∙ l.invariant.2,
-      push-cousins.auto.1.1.1.1.1.1.0 ∙ l.invariant.3,
+      push-cousins.auto.costs ∙ l.invariant.2,
+      push-cousins.auto.numbers ∙ l.invariant.3,
       cousins_turn start.args.s t l.i (pairs_in l.costs l.numbers l.count) _ (nodes-long start test.true) push-cousins.ensures.0
           ∙ l.invariant.4,
     )

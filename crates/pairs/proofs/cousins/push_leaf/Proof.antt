@@ -70,8 +70,8 @@ loop-again c =
     let t = tree_of s start.args.n start.args.floats.now start.args.links.now in (
       omega (arith, push.ensures.1, l.invariant.0),
       omega (arith, more.true),
-      push.auto.0 ∙ l.invariant.2,
-      push.auto.1.0 ∙ l.invariant.3,
+      push.auto.costs ∙ l.invariant.2,
+      push.auto.numbers ∙ l.invariant.3,
       partners_turn s t (beneath t start.args.leaves.now) list l.k (get_or list l.k 0) (partner_of cheapest-beneath.result)
           (pairs_in l.costs l.numbers l.m) _ more.true refl cheapest-beneath.ensures.0 push.ensures.0 ∙ l.invariant.4,
     )

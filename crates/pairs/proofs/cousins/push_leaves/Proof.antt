@@ -96,8 +96,8 @@ loop-again c =
     let more = left c.before.before.before.before.before.before.before in (
       omega (arith, l.invariant.0, push-leaf.ensures.1),
       omega (arith, more'.true),
-      push-leaf.auto.1.1.1.1.1.1.0 ∙ l.invariant.2,
-      push-leaf.auto.1.1.1.1.1.1.1.0 ∙ l.invariant.3,
+      push-leaf.auto.costs ∙ l.invariant.2,
+      push-leaf.auto.numbers ∙ l.invariant.3,
       leaf_turn start.args.s t (beneath t leaves) leaves l.k (pairs_in l.costs l.numbers l.m) _ more'.true
           (push-leaf.ensures.0
           ∙ ap (λ x. pairs_in l.costs l.numbers l.m ++ partners start.args.s t (beneath t leaves) x) (list.ensures start.args.floats.now))

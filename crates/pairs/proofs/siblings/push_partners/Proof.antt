@@ -59,8 +59,8 @@ loop-again c =
     let list = start.args.list.now in (
       omega (arith, push.ensures.1, l.invariant.0),
       omega (arith, more.true),
-      push.auto.0 ∙ l.invariant.2,
-      push.auto.1.0 ∙ l.invariant.3,
+      push.auto.costs ∙ l.invariant.2,
+      push.auto.numbers ∙ l.invariant.3,
       λ ls. partners_turn s (tree_of s start.args.n start.args.floats.now ls) list list l.k (get_or list l.k 0) (partner_of cheapest.result)
           (pairs_in l.costs l.numbers l.m) _
           more.true refl (cheapest.ensures.0 ls) push.ensures.0 ∙ l.invariant.4 ls,

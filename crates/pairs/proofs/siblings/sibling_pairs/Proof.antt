@@ -54,8 +54,8 @@ loop-again c =
     let l = c.loop-i in (
       omega (arith, test.true),
       omega (arith, listed_more t l.i, l.invariant.1, push-siblings.ensures.1),
-      push-siblings.auto.1.1.1.1.1.0 ∙ l.invariant.2,
-      push-siblings.auto.1.1.1.1.1.1.0 ∙ l.invariant.3,
+      push-siblings.auto.costs ∙ l.invariant.2,
+      push-siblings.auto.numbers ∙ l.invariant.3,
       siblings_turn start.args.s t l.i (pairs_in l.costs l.numbers l.count) _ (nodes-long start test.true) push-siblings.ensures.0
           ∙ l.invariant.4,
     )

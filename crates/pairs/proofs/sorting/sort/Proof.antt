@@ -41,8 +41,8 @@ loop-again c =
     let sort-in = c.sort_in in
     let l = c.loop-i in let inv = l.invariant in (
       omega (arith, inv.0),
-      sort-in.auto.0 ∙ inv.1,
-      sort-in.auto.1.0 ∙ inv.2,
+      sort-in.auto.costs ∙ inv.1,
+      sort-in.auto.numbers ∙ inv.2,
       sort_turn _ _ _ l.i _ _ more.true inv.0 (length_pairs _ _ _) inv.3 sort-in.ensures,
     )
 

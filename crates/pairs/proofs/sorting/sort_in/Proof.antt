@@ -56,13 +56,13 @@ same_length : tie.Need-shape_of-costs-else-q-p invariant-loop decreases-loop
 same_length c =
     let loop = c.loop-at in
     let put2 = c.put-else-q-p in
-    put2.auto.0 ∙ loop.invariant.1
+    put2.auto.costs ∙ loop.invariant.1
 
 same-length-2 : tie.Need-shape_of-numbers-else-q-p invariant-loop decreases-loop
 same-length-2 c =
     let loop = c.loop-at in
     let put2 = c.put-else-q-p in
-    put2.auto.1.0 ∙ loop.invariant.2
+    put2.auto.numbers ∙ loop.invariant.2
 
 returns : tie.Need-returns-else-q-p invariant-loop decreases-loop
 returns c =
@@ -85,8 +85,8 @@ loop-again c =
     let put = c.put in
     let l = c.loop-at in let inv = l.invariant in (
       more.true,
-      put.auto.0 ∙ inv.1,
-      put.auto.1.0 ∙ inv.2,
+      put.auto.costs ∙ inv.1,
+      put.auto.numbers ∙ inv.2,
       inv.3,
       moved _ _ start.args.count l.at pair.result pair2.result more.true pair2.ensures.0 test.true put.ensures ∙ inv.4,
     )
@@ -100,13 +100,13 @@ same-length-3 : tie.Need-shape_of-costs invariant-loop decreases-loop
 same-length-3 c =
     let loop = c.loop-at in
     let put3 = c.put-2 in
-    put3.auto.0 ∙ loop.invariant.1
+    put3.auto.costs ∙ loop.invariant.1
 
 same-length-4 : tie.Need-shape_of-numbers invariant-loop decreases-loop
 same-length-4 c =
     let loop = c.loop-at in
     let put3 = c.put-2 in
-    put3.auto.1.0 ∙ loop.invariant.2
+    put3.auto.numbers ∙ loop.invariant.2
 
 returns-2 : tie.Need-returns invariant-loop decreases-loop
 returns-2 c =

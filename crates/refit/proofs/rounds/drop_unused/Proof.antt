@@ -21,7 +21,7 @@ enough-requires c κs =
     let start = start dropped in
     let a = start.args in
     let drop = dropped.drop_merged-m in
-    rw drop.auto.1.1.1.0 (links_kept a.s a.n drop.result a.numbers.now drop.ensures.0 start.requires.0.1)
+    rw drop.auto.links (links_kept a.s a.n drop.result a.numbers.now drop.ensures.0 start.requires.0.1)
 
 returns : tie.Need-returns-then-enough
 returns c =

@@ -32,9 +32,9 @@ drop-unused-requires c κs =
     let entries = count_entries_lem a.s a.n a.floats.now a.links.now in
     let few = start.requires.0.0.entries_in in (
       (
-        rw new.auto.1.1.0 start.requires.0.0,
+        rw new.auto.floats start.requires.0.0,
         start.requires.0.1,
-        rw (new.auto.1.1.1.1.0, new.auto.1.1.1.1.1.0) start.requires.0.2,
+        rw (new.auto.scratch, new.auto.numbers) start.requires.0.2,
       ),
       (
         poured_leaves a.s a.n a.floats.now _ a.links.now start.requires.1.1.tree,

@@ -72,12 +72,12 @@ loop-again c =
     let inv = at.loop-done.inv in
     let new = round.round-turn in
     let more = round.loop-done-test.true in (
-      rw new.auto.1.1.0 new.ensures.0.0,
-      rw new.auto.1.1.1.0 new.ensures.0.1,
-      new.auto.1.1.0 ∙ inv.2,
-      new.auto.1.1.1.0 ∙ inv.3,
-      new.auto.1.1.1.1.0 ∙ inv.4,
-      new.auto.1.1.1.1.1.0 ∙ inv.5,
+      rw new.auto.floats new.ensures.0.0,
+      rw new.auto.links new.ensures.0.1,
+      new.auto.floats ∙ inv.2,
+      new.auto.links ∙ inv.3,
+      new.auto.scratch ∙ inv.4,
+      new.auto.numbers ∙ inv.5,
       rounds_on a.s a.count a.rows.now a.n.entries (tree start) at.loop-done.done _ inv.6 more new.ensures.1 start.requires.0.0.sized
           c.if-turn.false,
     )

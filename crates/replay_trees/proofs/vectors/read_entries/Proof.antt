@@ -34,7 +34,7 @@ same_length : tie.Need-shape_of-floats-then-not-put_float invariant-loop decreas
 same_length c =
     let loop = c.loop-i in
     let put-float = c.put_float in
-    put-float.auto.0 ∙ loop.invariant.3
+    put-float.auto.floats ∙ loop.invariant.3
 
 add-slot : tie.Need-overflow_add-slot invariant-loop decreases-loop
 add-slot c =
@@ -47,7 +47,7 @@ loop-again c =
     let loop = c.loop-i in
     let put-float = c.put_float in
     let w = slot_small start.args.s start.requires in let e = c.slot_width-slot.ensures in
-    (omega arith, omega arith, omega arith, put-float.auto.0 ∙ loop.invariant.3)
+    (omega arith, omega arith, omega arith, put-float.auto.floats ∙ loop.invariant.3)
 
 same-length-2 : tie.Need-shape_of-floats invariant-loop decreases-loop
 same-length-2 c = c.loop-i.invariant.3

@@ -20,13 +20,13 @@ same_length : tie.Need-shape_of-links-then-not-put_link invariant-loop decreases
 same_length c =
     let loop = c.loop-k in
     let put-link = c.put_link in
-    put-link.auto.0 ∙ loop.invariant.2
+    put-link.auto.links ∙ loop.invariant.2
 
 loop-again : tie.Need-loop-k-preserved invariant-loop decreases-loop
 loop-again c =
     let loop = c.loop-k in
     let put-link = c.put_link in
-    (omega arith, loop.invariant.1, put-link.auto.0 ∙ loop.invariant.2)
+    (omega arith, loop.invariant.1, put-link.auto.links ∙ loop.invariant.2)
 
 same-length-2 : tie.Need-shape_of-links invariant-loop decreases-loop
 same-length-2 c = c.loop-k.invariant.2

@@ -22,13 +22,13 @@ same_length : tie.Need-shape_of-floats-then-not-read_node invariant-loop decreas
 same_length c =
     let loop = c.loop-i in
     let read-node = c.read_node in
-    read-node.auto.0 ∙ loop.invariant.4
+    read-node.auto.floats ∙ loop.invariant.4
 
 same-length-2 : tie.Need-shape_of-links-then-not-read_node invariant-loop decreases-loop
 same-length-2 c =
     let loop = c.loop-i in
     let read-node = c.read_node in
-    read-node.auto.1.1.0 ∙ loop.invariant.5
+    read-node.auto.links ∙ loop.invariant.5
 
 add-slot : tie.Need-overflow_add-slot invariant-loop decreases-loop
 add-slot c =
@@ -47,7 +47,7 @@ loop-again c =
     let read-node = c.read_node in
     let w = slot_small start.args.s start.requires in let e = c.slot_width-slot.ensures in
     let v = block_small start.args.s start.requires in let f = c.block_width-block.ensures in
-    (omega arith, omega arith, omega arith, omega arith, read-node.auto.0 ∙ loop.invariant.4, read-node.auto.1.1.0 ∙ loop.invariant.5)
+    (omega arith, omega arith, omega arith, omega arith, read-node.auto.floats ∙ loop.invariant.4, read-node.auto.links ∙ loop.invariant.5)
 
 same-length-3 : tie.Need-shape_of-floats invariant-loop decreases-loop
 same-length-3 c = c.loop-i.invariant.4

@@ -43,7 +43,7 @@ loop-again c =
     let new = c.write_entry-end in
     let more = wrote_entry start.requires.0 loop.i (omega arith) loop.invariant.3 loop.invariant.2 (summary.summary-e.ensures start.args.links.now)
     new.ensures in
-    (omega arith, new.auto.1.1.1.0 ∙ loop.invariant.1, more.0, more.1)
+    (omega arith, new.auto.out ∙ loop.invariant.1, more.0, more.1)
 
 same_length : tie.Need-shape_of-out invariant-loop decreases-loop
 same_length c = c.loop-i.invariant.1

@@ -33,7 +33,7 @@ loop-again c =
     let turn = c.before.before.before.before.before.before in
     let loop = turn.loop-i in
     let new = c.hex-end in
-    (omega arith, new.auto.1.0 ∙ loop.invariant.1, wrote_is (hexes_more _ loop.i _ (omega arith)) (wrote_both loop.invariant.2 new.ensures))
+    (omega arith, new.auto.out ∙ loop.invariant.1, wrote_is (hexes_more _ loop.i _ (omega arith)) (wrote_both loop.invariant.2 new.ensures))
 
 same_length : tie.Need-shape_of-out invariant-loop decreases-loop
 same_length c = c.loop-i.invariant.1

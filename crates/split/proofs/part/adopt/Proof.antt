@@ -39,7 +39,7 @@ loop-again c =
     let below : loop.k < length ks = simp length-take (omega arith) in
     let here : get_or a.list.now loop.k 0 ≡ get_or ks loop.k 0 = sym (get_or-take a.len a.list.now loop.k 0 taken) in (
       omega arith,
-      set-parent.auto.1.1.0 ∙ loop.invariant.1,
+      set-parent.auto.links ∙ loop.invariant.1,
       λ fs. adopt_turn a.p ks loop.k (tree_of a.s a.n fs loop.links) below (rw here at (set-parent.ensures fs)) ∙ loop.invariant.2 fs,
     )
 

@@ -19,7 +19,7 @@ same_length c =
     let kind-word = c.kind_word in
     let start = c.before.before.before.before.before.before.before.before in
     let b = set (set start.args.b.now 0 parent-word.result) 1 kind-word.result in
-    same_len_mid 2 (length b - 2) b c.copy.new.1.1.0 c.copy.auto.b ∙ simp length-set
+    same_len_mid 2 (length b - 2) b c.copy.new.b c.copy.auto.b ∙ simp length-set
 
 returns : tie.Need-returns
 unfolding put_stretch
@@ -28,7 +28,7 @@ returns c =
     let kind-word = c.kind_word in
     let start = c.before.before.before.before.before.before.before.before in
     λ p. link_is start.args.s p start.args.parent start.args.leaf start.args.len parent-word.result kind-word.result
-    start.args.b.now c.copy.new.1.1.0 start.args.list.now start.requires.0 start.requires.1 start.requires.2
+    start.args.b.now c.copy.new.b start.args.list.now start.requires.0 start.requires.1 start.requires.2
     start.requires.3 parent-word.ensures kind-word.ensures c.copy.ensures
 
 pub link_spec : {M : Type 1} → statement M

@@ -18,7 +18,7 @@ same_length c =
     let kind-word = c.kind_word in
     let start = c.before.before.before.before.before.before.before.before in
     let b = set start.args.b.now 1 kind-word.result in
-    same_len_mid 2 (length b - 2) b c.copy.new.1.1.0 c.copy.auto.b ∙ simp length-set
+    same_len_mid 2 (length b - 2) b c.copy.new.b c.copy.auto.b ∙ simp length-set
 
 returns : tie.Need-returns
 unfolding put_stretch
@@ -27,7 +27,7 @@ returns c =
     let kind-word = c.kind_word in
     let start = c.before.before.before.before.before.before.before.before in
     λ p. list_is start.args.s p is_leaf.result start.args.len kind-word.result start.args.b.now
-    c.copy.new.1.1.0 start.args.list.now start.requires.0 start.requires.1 start.requires.2 (is_leaf.ensures p)
+    c.copy.new.b start.args.list.now start.requires.0 start.requires.1 start.requires.2 (is_leaf.ensures p)
     kind-word.ensures c.copy.ensures
 
 pub set_list_spec : {M : Type 1} → statement M

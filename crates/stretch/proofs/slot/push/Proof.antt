@@ -14,18 +14,18 @@ same_length c =
     let deviate = c.deviate in
     let start = c.before.before.before.before.before.before.before.before.before.before.before in
     let p = start.args.p.now in
-    let first = same_len_mid 1 (length p - 1) p deviate.new.1.1.1.0 deviate.auto.1.1.1.0 in
-    let q = put_mid 1 (length p - 1) p deviate.new.1.1.1.0 in
-    length-set (put_mid 1 (1 + start.args.s.dim - 1) q c.shift.new.1.1.0) 0 _ ∙ same_len_mid 1 (1 + start.args.s.dim - 1)
-    q c.shift.new.1.1.0 c.shift.auto.m ∙ first
+    let first = same_len_mid 1 (length p - 1) p deviate.new.q deviate.auto.q in
+    let q = put_mid 1 (length p - 1) p deviate.new.q in
+    length-set (put_mid 1 (1 + start.args.s.dim - 1) q c.shift.new.m) 0 _ ∙ same_len_mid 1 (1 + start.args.s.dim - 1)
+    q c.shift.new.m c.shift.auto.m ∙ first
 
 returns : tie.Need-returns
 unfolding put_stretch
 returns c =
     let deviate = c.deviate in
     let start = c.before.before.before.before.before.before.before.before.before.before.before in
-    push_parts start.args.s start.requires.0 start.args.row.now start.args.p.now deviate.new.1.1.1.0
-    c.shift.new.1.1.0 _ start.requires.1 refl deviate.ensures c.shift.ensures
+    push_parts start.args.s start.requires.0 start.args.row.now start.args.p.now deviate.new.q
+    c.shift.new.m _ start.requires.1 refl deviate.ensures c.shift.ensures
 
 pub push_spec : {M : Type 1} → statement M
 push_spec =

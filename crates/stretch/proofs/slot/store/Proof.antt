@@ -16,11 +16,11 @@ use Rattle.stretch.proofs.slot.store.Tie as tie
 long : (c : tie.After-slice_known-2-1)
     → length (put_mid 1 (1 + c.args.s.dim - 1)
     (set c.args.p.now 0
-    c.args.c.weight) c.copy.new.1.1.0) ≡ length
+    c.args.c.weight) c.copy.new.p) ≡ length
     c.args.p.now
 long c =
     let start = c.before.before.before.before.before.before.before.before in
-    same_len_mid 1 (1 + start.args.s.dim - 1) (set start.args.p.now 0 start.args.c.weight) c.copy.new.1.1.0
+    same_len_mid 1 (1 + start.args.s.dim - 1) (set start.args.p.now 0 start.args.c.weight) c.copy.new.p
     c.copy.auto.p ∙ length-set start.args.p.now 0 start.args.c.weight
 
 fill-requires : tie.Need-fill-requires
@@ -37,8 +37,8 @@ same_length c =
     let copy = c.copy in
     let start = c.before.before.before.before.before.before.before.before.before.before.before.before in
     let d = start.args.s.dim in
-    let q = put_mid 1 (1 + d - 1) (set start.args.p.now 0 start.args.c.weight) copy.new.1.1.0 in
-    same_len_mid (1 + d) (length q - (1 + d)) q c.fill.new.1.1.0 c.fill.auto.p ∙ long
+    let q = put_mid 1 (1 + d - 1) (set start.args.p.now 0 start.args.c.weight) copy.new.p in
+    same_len_mid (1 + d) (length q - (1 + d)) q c.fill.new.p c.fill.auto.p ∙ long
     c.before.before.before.before
 
 returns : tie.Need-returns
@@ -51,7 +51,7 @@ returns c =
     let n = slots.ensures in
     let mean : length start.args.c.mean ≡ 8 = search rules in
     let deviation : length start.args.c.deviation ≡ 8 = search rules in
-    store_parts start.args.s start.args.c start.args.p.now copy.new.1.1.0 c.fill.new.1.1.0 slots.result
+    store_parts start.args.s start.args.c start.args.p.now copy.new.p c.fill.new.p slots.result
     start.requires.1 (ap length copy.ensures ∙ length-take-le start.args.s.dim start.args.c.mean (omega arith)) copy.ensures n
     (omega arith) c.fill.ensures
 

@@ -93,8 +93,8 @@ returns c =
     let tree = cut a.h (lent start) start.requires.0.0 (floats sizes) (links sizes) in
     left-whole a.h (lent start) (worked a.w s (rows_of a.count s.dim a.rows.now) (lent_tree a.h a.floats.now a.links.now))
     (rw tree at (rw c.settings-s.ensures at new.ensures)) c.with_counters.ensures
-    (new.auto.1.1.0 ∙ length-take-le _ _ (floats-end sizes)) (new.auto.1.1.1.0 ∙ length-take-le _ _ (links_end sizes))
-    (new.auto.1.1.1.1.0 ∙ length-take-le _ _ (scratch-end sizes)) (new.auto.1.1.1.1.1.0 ∙ length-take-le _ _ (numbers-end sizes))
+    (new.auto.floats ∙ length-take-le _ _ (floats-end sizes)) (new.auto.links ∙ length-take-le _ _ (links_end sizes))
+    (new.auto.scratch ∙ length-take-le _ _ (scratch-end sizes)) (new.auto.numbers ∙ length-take-le _ _ (numbers-end sizes))
 
 pub change_spec : {M : Type 1} → statement M
 change_spec = tie.close (tie.spec (λ c κs. search rules) floats-needed-requires links-needed-requires scratch-floats-needed-requires scratch-links-needed-requires (λ c. search rules) (λ c. search rules) part-perform-tidily-end (λ c. search rules) (λ c. search rules) part-perform-tidily-end-2 (λ c. search rules) (λ c. search rules) part-perform-tidily-end-3 (λ c. search rules) (λ c. search rules) part-perform-tidily-end-4 perform-tidily-requires (λ c κs. search rules) (λ c. search rules) (λ c. search rules) (λ c. search rules) (λ c. search rules) returns)

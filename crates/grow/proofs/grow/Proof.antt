@@ -11,10 +11,10 @@ use Rattle.grow.proofs.grow.Tie as tie
 
 -- the start, from the descent done; the descent, from the path fed; the path, from the row placed
 abbrev start : tie.After-descend-leaf → tie.Start
-start c = c.before.before.before.before.before.before
+start c = c.before.before.before.before
 
 abbrev found : tie.After-feed_path → tie.After-descend-leaf
-found c = c.before.before.before
+found c = c.before.before
 
 abbrev fed : tie.After-try_absorb-m → tie.After-feed_path
 fed c = c.before.before.before.before.before
@@ -35,12 +35,12 @@ path c =
 
 descend-requires : tie.Need-descend-leaf-requires
 descend-requires c κs =
-    let start = c.before.before.before.before.before in
+    let start = c.before.before.before in
     ((start.requires.0.0, start.requires.0.1, fits_row start.args.s start.args.row.now start.requires.0.2), growable_sure _ _ start.requires.1)
 
 feed-path-requires : tie.Need-feed_path-requires
 feed-path-requires c κs =
-    let start = start c.before.before in (
+    let start = start c.before in (
       (start.requires.0.0, start.requires.0.1, fits_row start.args.s start.args.row.now start.requires.0.2),
       (growable_sure _ _ start.requires.1, c.descend-leaf.ensures.upper_bound),
     )

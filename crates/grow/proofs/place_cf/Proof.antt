@@ -19,10 +19,10 @@ use Rattle.grow.proofs.place_cf.Tie as tie
 
 -- the start, from the descent done; the descent, from the path fed; the path, from the entry begun
 abbrev start : tie.After-descend-leaf → tie.Start
-start c = c.before.before.before.before.before.before
+start c = c.before.before.before.before
 
 abbrev found : tie.After-feed_path → tie.After-descend-leaf
-found c = c.before.before.before
+found c = c.before.before
 
 abbrev fed : tie.After-begin-m → tie.After-feed_path
 fed c = c.before.before.before.before.before.before
@@ -71,12 +71,12 @@ links c q = let start = start (found (fed c)) in links_begun start.args.s start.
 
 descend-requires : tie.Need-descend-leaf-requires
 descend-requires c κs =
-    let start = c.before.before.before.before.before in
+    let start = c.before.before.before in
     ((start.requires.0.0, start.requires.0.1, fits_slot start.args.s start.args.x.now start.requires.0.2), placeable_sure _ _ _ start.requires.1)
 
 feed-path-requires : tie.Need-feed_path-requires
 feed-path-requires c κs =
-    let start = start c.before.before in (
+    let start = start c.before in (
       (start.requires.0.0, start.requires.0.1, fits_slot start.args.s start.args.x.now start.requires.0.2),
       (placeable_sure _ _ _ start.requires.1, c.descend-leaf.ensures.upper_bound),
     )
@@ -119,7 +119,7 @@ split-up-requires c κs =
 
 returns : tie.Need-returns
 returns c =
-    let split = c.split_up_lem in
+    let split = c.split_up in
     let begun = c.before.before.before.before.before.before.before.before.before.before.before in
     let fed = fed begun in
     let down = found fed in

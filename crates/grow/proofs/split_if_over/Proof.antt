@@ -8,7 +8,7 @@ use Rattle.grow.proofs.split_if_over.Tie as tie
 
 returns : tie.Need-returns-then-fits
 returns c =
-    let start = c.before.before.before.before.before in
+    let start = c.before.before.before.before in
     let a = start.args in
     let t = tree_of a.s a.n a.floats.now a.links.now in
     let within = sym (c.fits2.ensures a.floats.now) ∙ c.if-fits.true in

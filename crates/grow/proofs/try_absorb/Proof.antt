@@ -25,13 +25,13 @@ use Rattle.grow.proofs.try_absorb.Tie as tie
 
 -- the start, from the search done; the search, from a row alone or from an entry tested; the test, from a row alone
 abbrev start : tie.After-search_leaf-near → tie.Start
-start c = c.before.before.before.before.before.before.before
+start c = c.before.before.before.before.before
 
 abbrev none : tie.After-alone → tie.After-search_leaf-near
-none c = c.before.before.before.before.before
+none c = c.before.before.before.before
 
 abbrev some : tie.After-absorbs → tie.After-search_leaf-near
-some c = c.before.before.before.before.before
+some c = c.before.before
 
 abbrev tested : tie.After-alone-2 → tie.After-absorbs
 tested c = c.before.before.before.before
@@ -80,7 +80,7 @@ module _ (c : tie.Start) {r : Counters} (q : r ≡ count_entries (c.args.n.entri
 
 search-leaf-requires : tie.Need-search_leaf-near-requires
 search-leaf-requires c κs =
-    let start = c.before.before.before.before.before.before in
+    let start = c.before.before.before.before in
     let a = start.args in
     (start.requires.0.0, start.requires.0.2, subst (ChildrenIn a.n true) (sym (c.list.ensures a.floats.now)) start.requires.1.inside)
 

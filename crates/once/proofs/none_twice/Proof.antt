@@ -32,14 +32,14 @@ leaf-marks-requires c κs =
 
 returns : tie.Need-returns-in_default invariant-loop decreases-loop
 returns c =
-    let start = c.before.before.before.before.before.before.before.before in
+    let start = c.before.before.before.before.before.before.before in
     let loop = c.loop-i in
     λ fs. some_twice start.args.s start.args.n fs start.args.links.now (start.requires.1 fs) loop.i loop.seen (loop.invariant.1 fs)
     (c.leaf_marks.ensures fs) c.in_default.is c.loop-i-test.true
 
 loop-again : tie.Need-loop-i-preserved invariant-loop decreases-loop
 loop-again c =
-    let start = c.before.before.before.before.before.before.before.before.before in
+    let start = c.before.before.before.before.before.before.before in
     let loop = c.loop-i in
     let leaf-marks = c.leaf_marks in
     (omega arith, λ fs. leaves_turn (tree start fs) loop.i loop.seen (loop.invariant.1 fs) (leaf-marks.ensures fs) c.in-Apart.is)

@@ -22,7 +22,7 @@ returns-2 c =
     let start = c.before.before.before.before.before in
     let leaves-len = c.leaves_len in
     λ fs. once_told start.args.s start.args.n fs start.args.links.now (start.requires.1 fs) (leaves-len.ensures fs) c.if-leaves_len-n.false
-    (c.none_twice_lem.ensures fs)
+    (c.none_twice.ensures fs)
 
 pub once_each_spec : {M : Type 1} → statement M
 once_each_spec = tie.close (tie.spec leaves-len-requires returns none-twice-requires returns-2)

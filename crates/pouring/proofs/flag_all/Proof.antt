@@ -43,7 +43,7 @@ loop-again c =
       | then-not-flag_used w ↦ (
         omega arith,
         long,
-        λ ls. rw w.1 (flags_down _ loop.i loop.numbers _ loop.all _ (loop.invariant.2 ls) used.ensures.1
+        λ ls. rw w.all-is (flags_down _ loop.i loop.numbers _ loop.all _ (loop.invariant.2 ls) used.ensures.1
             (used.ensures.0 ls) (not-true _ w.if-not-flag_used.true)),
       )
       | else-not-flag_used w ↦ (

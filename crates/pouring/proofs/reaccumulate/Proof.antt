@@ -8,13 +8,13 @@ use Rattle.pouring.proofs.reaccumulate.Tie as tie
 
 -- the start, from the rows poured; these, from the entries put back; and those, from the flags set
 abbrev start : tie.After-pour → tie.Start
-start c = c.before.before.before.before.before.before.before.before
+start c = c.before.before.before.before.before.before.before
 
 abbrev poured : tie.After-put_back → tie.After-pour
-poured c = c.before.before.before.before.before
+poured c = c.before.before.before.before
 
 abbrev put : tie.After-flag_all → tie.After-put_back
-put c = c.before.before.before.before.before
+put c = c.before.before.before.before
 
 -- the tree as it is lent
 abbrev tree : tie.Start → Tree

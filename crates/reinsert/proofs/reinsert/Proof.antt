@@ -8,7 +8,7 @@ use Rattle.reinsert.proofs.reinsert.Tie as tie
 
 -- the start, from the entries collected, and these, from the nodes forgotten
 abbrev start : tie.After-collect-count → tie.Start
-start c = c.before.before.before.before.before.before.before.before.before
+start c = c.before.before.before.before.before.before.before
 
 abbrev taken : tie.After-clear-m → tie.After-collect-count
 taken c = c.before.before.before.before.before.before.before
@@ -19,7 +19,7 @@ tree c = tree_of c.args.s c.args.n c.args.floats.now c.args.links.now
 
 collect-requires : tie.Need-collect-count-requires
 collect-requires c κs =
-    let start = c.before.before.before.before.before.before.before.before in
+    let start = c.before.before.before.before.before.before in
     ((start.requires.0.0, start.requires.0.1, start.requires.1.1.standing), start.requires.1.0)
 
 replace-all-requires : tie.Need-replace_all-requires

@@ -49,12 +49,12 @@ loop-again c =
     let far = c.to_row-d.ensures in
     elim c.if-d-least.branch [
       | then-d-least w ↦ (
-        rw w.1 (entry_listed _ _ start.requires.3 _ more),
-        λ ls. rw (w.1, w.2) (nearest-taken _ _ loop.k loop.best loop.least more (far ls) w.if-d-least.true ∙ loop.invariant.1 ls),
+        rw w.best-is (entry_listed _ _ start.requires.3 _ more),
+        λ ls. rw (w.best-is, w.least-is) (nearest-taken _ _ loop.k loop.best loop.least more (far ls) w.if-d-least.true ∙ loop.invariant.1 ls),
       )
       | else-d-least w ↦ (
-        rw w.1 loop.invariant.0,
-        λ ls. rw (w.1, w.2) (nearest-left _ _ loop.k loop.best loop.least more (far ls) w.if-d-least.false ∙ loop.invariant.1 ls),
+        rw w.best-is loop.invariant.0,
+        λ ls. rw (w.best-is, w.least-is) (nearest-left _ _ loop.k loop.best loop.least more (far ls) w.if-d-least.false ∙ loop.invariant.1 ls),
       )
     ]
 

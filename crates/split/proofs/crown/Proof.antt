@@ -13,7 +13,7 @@ use Rattle.split.proofs.crown.Statement.{statement}
 use Rattle.split.proofs.crown.Tie as tie
 
 abbrev start : tie.After-gather-c → tie.Start
-start c = c.before.before.before.before.before
+start c = c.before.before.before.before
 
 -- every number of a node fits its word
 small : (c : tie.Start) → c.args.n.nodes < 65536
@@ -27,7 +27,7 @@ cast-t12 c = omega (arith, small c.before.before, c.requires.3)
 
 gather-requires : tie.Need-gather-c-requires
 gather-requires c κs =
-    let s = c.before.before.before.before in
+    let s = c.before.before.before in
     (s.requires.0, pair_in s.args.n s.args.i s.args.j s.requires.2 s.requires.3)
 
 set-parent-requires : tie.Need-set_parent-requires

@@ -16,10 +16,10 @@ abbrev grouped : tie.After-part-r → tie.After-groups-h
 grouped c = c.before.before.before
 
 abbrev kind : tie.After-groups-h → tie.After-is_leaf-leaf
-kind c = c.before.before.before
+kind c = c.before
 
 abbrev start : tie.After-is_leaf-leaf → tie.Start
-start c = c.before.before.before.before
+start c = c.before.before.before
 
 -- what `part` asks of the groups
 halves : (c : tie.After-groups-h)

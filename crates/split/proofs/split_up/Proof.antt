@@ -32,7 +32,7 @@ abbrev tree : tie.At-loop-left invariant-loop decreases-loop → Tree
 tree c = tree_of (start c).args.s c.loop-left.m c.loop-left.floats c.loop-left.links
 
 abbrev turn : tie.After-parent-above invariant-loop decreases-loop → tie.At-loop-left invariant-loop decreases-loop
-turn c = c.before.before.before.before.before.before
+turn c = c.before.before.before.before
 
 abbrev read : tie.After-split-m invariant-loop decreases-loop → tie.After-parent-above invariant-loop decreases-loop
 read c = c.before.before.before

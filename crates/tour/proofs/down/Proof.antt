@@ -19,14 +19,14 @@ returns c =
 returns-2 : tie.Need-returns-then-p-i
 unfolding parent_of down_of names
 returns-2 c =
-    let start = c.before.before.before.before.before.before in
+    let start = c.before.before.before.before in
     let p = c.p-1 in
     λ fs. rw (← c.parent.ensures fs, p.given.1, eq-eqb start.args.i p.given.0.0 (sym c.if-p-i.true))
 
 returns-3 : tie.Need-returns-else-p-i
 unfolding parent_of down_of names
 returns-3 c =
-    let start = c.before.before.before.before.before.before in
+    let start = c.before.before.before.before in
     let p = c.p-1 in
     λ fs. rw (← c.parent.ensures fs, p.given.1, ne_eqb start.args.i p.given.0.0 (λ w. c.if-p-i.false (sym w)))
 

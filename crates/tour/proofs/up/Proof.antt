@@ -15,7 +15,7 @@ parent-requires c κs = (c.requires.0, c.requires.1)
 list-requires : tie.Need-list-requires
 unfolding parent_of
 list-requires c κs =
-    let start = c.before.before.before.before.before in
+    let start = c.before.before.before in
     let parent = c.parent in
     let p = c.p-1 in (
       start.requires.0,
@@ -26,7 +26,7 @@ list-requires c κs =
 returns : tie.Need-returns-in-Node
 unfolding parent_of up_of
 returns c =
-    let start = c.before.before.before.before.before.before.before in
+    let start = c.before.before.before.before.before in
     let parent = c.parent in
     let p = c.p-1 in
     λ fs. ap (Up p.given.0.0) (c.place_after.ensures ∙ ap (place_after start.args.i) (c.list.ensures fs))
@@ -35,7 +35,7 @@ returns c =
 returns-2 : tie.Need-returns-in-NoParent
 unfolding parent_of up_of
 returns-2 c =
-    let start = c.before.before.before.before in
+    let start = c.before.before.before in
     λ fs. ap (up_of _ start.args.i) (sym (ap parent_of c.in-NoParent.is) ∙ c.parent.ensures fs)
 
 pub up_spec : {M : Type 1} → statement M

@@ -50,19 +50,19 @@ next-requires c κs =
 
 add-d : tie.Need-overflow_add-d invariant-loop decreases-loop
 add-d c =
-    let start = c.before.before.before.before.before.before.before.before.before.before in
+    let start = c.before.before.before.before.before.before.before.before in
     let a = nodes_small start.args.s start.requires.0.sized in
     omega (arith, start.requires.0.nodes_in, a, c.loop-left.invariant.1)
 
 add-met : tie.Need-overflow_add-met invariant-loop decreases-loop
 add-met c =
-    let start = c.before.before.before.before.before.before.before.before.before.before in
+    let start = c.before.before.before.before.before.before.before.before in
     let a = nodes_small start.args.s start.requires.0.sized in
     omega (arith, start.requires.0.nodes_in, a, c.loop-left.invariant.2)
 
 meet-requires-2 : tie.Need-meet-depths-requires-in-Down invariant-loop decreases-loop
 meet-requires-2 c κs =
-    let start = c.before.before.before.before.before.before.before.before.before.before in
+    let start = c.before.before.before.before.before.before.before.before in
     let loop = c.loop-left in
     let next = c.next in
     let down = c.c-1 in (
@@ -73,7 +73,7 @@ meet-requires-2 c κs =
 
 sub-d : tie.Need-overflow_sub-d invariant-loop decreases-loop
 sub-d c =
-    let start = c.before.before.before.before.before.before.before.before.before.before in
+    let start = c.before.before.before.before.before.before.before.before in
     let loop = c.loop-left in
     let next = c.next in
     let up = c.p-1 in

@@ -35,16 +35,16 @@ rows-of-requires c κs =
 add-rows : tie.Need-overflow_add-rows invariant-loop decreases-loop
 add-rows c =
     let start = c.before.before.before.before.before.before in
-    let few = entries_small start.args.s start.requires.0.sized in let in_cap = start.requires.0.entries_in in let q = c.rows_of_lem.ensures.1 in omega arith
+    let few = entries_small start.args.s start.requires.0.sized in let in_cap = start.requires.0.entries_in in let q = c.rows_of-rows.ensures.1 in omega arith
 
 loop-again : tie.Need-loop-e-preserved invariant-loop decreases-loop
 unfolding row_count
 loop-again c =
     let loop = c.loop-e in
-    let q = c.rows_of_lem.ensures.1 in (
+    let q = c.rows_of-rows.ensures.1 in (
       omega arith,
       omega arith,
-      λ ls. sum_more _ loop.e (loop.invariant.2 ls) (c.rows_of_lem.ensures.0 ∙ ap (to_unsigned 64) (c.weight.ensures ls)),
+      λ ls. sum_more _ loop.e (loop.invariant.2 ls) (c.rows_of-rows.ensures.0 ∙ ap (to_unsigned 64) (c.weight.ensures ls)),
     )
 
 returns : tie.Need-returns invariant-loop decreases-loop

@@ -36,7 +36,7 @@ loop-again c =
     let list-len = c.list_len-len in (
       omega arith,
       sum-on _ _ loop.sum loop.k (rw (sym (list-len.ensures start.args.floats.now)) c.loop-k-test.true) loop.invariant.1
-          c.weight_at_lem.ensures,
+          c.weight_at-sum.ensures,
     )
 
 returns : tie.Need-returns invariant-loop decreases-loop

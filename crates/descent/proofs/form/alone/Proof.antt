@@ -7,13 +7,13 @@ use Rattle.descent.proofs.form.alone.Tie as tie
 
 push-requires : tie.Need-push-requires
 push-requires c κs =
-    let start = c.before.before.before.before in
+    let start = c.before.before.before in
     let sized = start.requires.0 in
     ((sized.dim_some, sized.dim_few), row_fits _ _ _ c.in-Row.is start.requires.1)
 
 load-requires : tie.Need-load-requires
 load-requires c κs =
-    let start = c.before.before.before in
+    let start = c.before.before in
     (start.requires.0, slot_fits _ _ _ c.in-Slot.is start.requires.1)
 
 returns : tie.Need-returns-in-Row

@@ -8,17 +8,17 @@ use Rattle.descent.proofs.form.feed.Tie as tie
 
 push-requires : tie.Need-push-requires
 push-requires c κs =
-    let start = c.before.before.before.before.before in
+    let start = c.before.before.before.before in
     (start.requires.0, start.requires.1, row_fits _ _ _ c.in-Row.is start.requires.2)
 
 load-requires : tie.Need-load-requires
 load-requires c κs =
-    let start = c.before.before.before.before.before in
+    let start = c.before.before.before.before in
     (start.requires.0.sized, slot_fits _ _ _ c.in-Slot.is start.requires.2)
 
 merge-requires : tie.Need-merge-requires
 merge-requires c κs =
-    let start = c.before.before.before.before.before.before in
+    let start = c.before.before.before.before.before in
     (start.requires.0, start.requires.1, rw c.load.ensures (in_shaped start.args.s start.requires.0.sized start.args.x.now))
 
 returns : tie.Need-returns-in-Row

@@ -7,12 +7,12 @@ use Rattle.descent.proofs.form.to_node.Tie as tie
 
 to-row-requires : tie.Need-to_row-requires
 to-row-requires c κs =
-    let start = c.before.before.before.before in
+    let start = c.before.before.before in
     (start.requires.0, start.requires.1, row_fits _ _ _ c.in-Row.is start.requires.2)
 
 to-slot-requires : tie.Need-to_slot-requires
 to-slot-requires c κs =
-    let start = c.before.before.before.before in
+    let start = c.before.before.before in
     (start.requires.0, start.requires.1, slot_fits _ _ _ c.in-Slot.is start.requires.2)
 
 returns : tie.Need-returns-in-Row

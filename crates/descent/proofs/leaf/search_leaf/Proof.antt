@@ -42,12 +42,12 @@ loop-again c =
     let far = c.to_row-d.ensures in
     elim c.if-d-least.branch [
       | then-d-least w ↦ (
-        rw w.1 (inside_entry _ _ (entry_listed _ _ start.requires.2 _ more)),
-        λ ls. rw (w.1, w.2) (search_taken _ _ loop.k loop.near loop.least more (far ls) w.if-d-least.true ∙ loop.invariant.1 ls),
+        rw w.near-is (inside_entry _ _ (entry_listed _ _ start.requires.2 _ more)),
+        λ ls. rw (w.near-is, w.least-is) (search_taken _ _ loop.k loop.near loop.least more (far ls) w.if-d-least.true ∙ loop.invariant.1 ls),
       )
       | else-d-least w ↦ (
-        rw w.1 loop.invariant.0,
-        λ ls. rw (w.1, w.2) (search_left _ _ loop.k loop.near loop.least more (far ls) w.if-d-least.false ∙ loop.invariant.1 ls),
+        rw w.near-is loop.invariant.0,
+        λ ls. rw (w.near-is, w.least-is) (search_left _ _ loop.k loop.near loop.least more (far ls) w.if-d-least.false ∙ loop.invariant.1 ls),
       )
     ]
 

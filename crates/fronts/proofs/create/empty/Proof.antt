@@ -24,7 +24,7 @@ tidy-requires c κs =
     let made = c.before.before.before.before.before.before.before.before.before in
     let clear = c.clear-m in
     let s = (start made).args.s in
-    let n = made.new.result in
+    let n = made.new-n.result in
     tree_fronts (new made) clear.auto.floats clear.auto.links (floats-cleared s n _ clear.ensures.0 (new made).floats_in_lem)
     (links_cleared s n _ clear.ensures.0 (new made).links_in)
 
@@ -34,7 +34,7 @@ returns c =
     let made = clear.before.before.before in
     let tidy = c.tidy in
     let a = (start made).args in
-    let empty = new-cleared a.s (start made).requires.0 made.new.result a.threshold made.new.ensures a.floats.now a.links.now in
+    let empty = new-cleared a.s (start made).requires.0 made.new-n.result a.threshold made.new-n.ensures a.floats.now a.links.now in
     subst (λ t. TreeLeft a.s t clear.clear-m.result tidy.new.floats tidy.new.links) (clear.clear-m.ensures.links_after ∙ empty) tidy.ensures
 
 pub empty_spec : {M : Type 1} → statement M

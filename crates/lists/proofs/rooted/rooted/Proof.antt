@@ -22,7 +22,7 @@ parent-requires c κs =
 returns-2 : tie.Need-returns-in-Node
 unfolding rooted orphan tree_of parent_of
 returns-2 c =
-    let start = c.before.before.before.before.before.before in
+    let start = c.before.before.before.before.before in
     let if1 = c.if-n in
     let parent = c.parent in
     λ fs. rw (
@@ -36,7 +36,7 @@ returns-2 c =
 returns-3 : tie.Need-returns-in-NoParent
 unfolding rooted orphan tree_of parent_of
 returns-3 c =
-    let start = c.before.before.before.before.before.before in
+    let start = c.before.before.before.before.before in
     let if1 = c.if-n in
     let parent = c.parent in
     λ fs. rw (

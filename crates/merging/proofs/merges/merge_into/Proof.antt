@@ -11,7 +11,7 @@ use Rattle.merging.proofs.merges.merge_into.Tie as tie
 
 merge-requires : tie.Need-merge-requires
 merge-requires c κs =
-    let start = c.before.before.before.before in (
+    let start = c.before.before.before in (
       start.requires.0,
       start.requires.1,
       rw (c.summary-c.ensures [])
@@ -22,7 +22,7 @@ returns : tie.Need-returns
 unfolding TwoMerged
 returns c =
     let summary = c.summary-c in
-    let start = c.before.before.before.before.before.before.before in
+    let start = c.before.before.before.before.before.before in
     let s = start.args.s in
     λ ls.
     c.merge.ensures ls

@@ -28,26 +28,26 @@ cast-two c =
     omega (arith, c.slice_known-4-1.given (3 * start.args.k + 1))
 
 both-alive-requires : tie.Need-both_alive-requires
-both-alive-requires c κs = let start = c.before.before.before.before.before in (first_in start, second-in start)
+both-alive-requires c κs = let start = c.before.before.before.before in (first_in start, second-in start)
 
 returns : tie.Need-returns-then-not-both_alive
 returns c =
-    let start = c.before.before.before.before.before.before.before in
+    let start = c.before.before.before.before.before.before in
     pair_skipped _ _ start.args.k start.args.m _ _ start.requires.1.0 (sym c.both_alive.ensures ∙ not-true _ c.if-not-both_alive.true-raw)
 
 merge-two-requires : tie.Need-merge_two-widest-requires
 unfolding PairBelow
 merge-two-requires c κs =
-    let start = c.before.before.before.before.before.before.before.before in
+    let start = c.before.before.before.before.before.before.before in
     (start.requires.0.0, start.requires.1.0.0, start.requires.1.0.1)
 
 -- the start, from where the second entry is taken away
 abbrev written : tie.After-slice_known-5-1 → tie.Start
-written c = c.before.before.before.before.before.before.before.before.before.before.before
+written c = c.before.before.before.before.before.before.before.before.before.before
 
 returns-2 : tie.Need-returns
 returns-2 c =
-    let start = c.before.before.before.before.before.before.before.before.before.before.before.before in
+    let start = c.before.before.before.before.before.before.before.before.before.before.before in
     let both-alive = c.both_alive in
     let test = c.if-not-both_alive.false-raw in
     let merge-two = c.merge_two-widest in

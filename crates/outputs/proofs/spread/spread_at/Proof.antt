@@ -20,12 +20,12 @@ element-copy-out-result-2 c = let few = c.requires.0.dim_few in let here = c.req
 
 returns : tie.Need-returns-in-Spherical
 returns c =
-    let start = c.before.before.before.before in
+    let start = c.before.before.before in
     spherical-at _ _ start.requires.0.dim_few _ start.requires.1 _ c.in-Spherical.is start.requires.2
 
 returns-2 : tie.Need-returns-in-Diagonal
 returns-2 c =
-    let start = c.before.before.before in
+    let start = c.before.before in
     diagonal-at _ _ start.requires.0.dim_few _ start.requires.1 _ c.in-Diagonal.is start.requires.2
 
 pub spread_at_spec : {M : Type 1} → statement M

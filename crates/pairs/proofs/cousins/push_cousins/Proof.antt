@@ -42,7 +42,7 @@ children c =
     start.requires.0.3 false (is-inner c))
 
 -- all nodes of its list are leaves
-all_leaves_lem : (c : tie.After-all_leaves) → c.all_leaves_lem.result ≡ true → all_leaves (tree c.before.before.before.before.before.before.before.before)
+all_leaves_lem : (c : tie.After-all_leaves) → c.all_leaves.result ≡ true → all_leaves (tree c.before.before.before.before.before.before.before.before)
     (node_at (tree c.before.before.before.before.before.before.before.before)
     c.args.i).list-list ≡ true
 all_leaves_lem c e =

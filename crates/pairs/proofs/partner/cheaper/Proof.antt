@@ -9,12 +9,12 @@ returns c = cheaper_first c.args.p c.args.j c.args.cost c.in_default.is
 
 returns-2 : tie.Need-returns-then-cost-least
 returns-2 c =
-    let start = c.before.before.before.before in
+    let start = c.before.before in
     cheaper_yes start.args.p start.args.j start.args.cost _ _ c.in-Named.is c.if-cost-least.true
 
 returns-3 : tie.Need-returns-else-cost-least
 returns-3 c =
-    let start = c.before.before.before.before in
+    let start = c.before.before in
     cheaper_no start.args.p start.args.j start.args.cost _ _ c.in-Named.is c.if-cost-least.false
 
 pub cheaper_spec : {M : Type 1} → statement M

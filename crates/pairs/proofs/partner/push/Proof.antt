@@ -8,7 +8,7 @@ use Rattle.pairs.proofs.partner.push.Tie as tie
 
 returns : tie.Need-returns-in_default
 returns c =
-    let start = c.before.before.before.before in (
+    let start = c.before.before.before in (
       none-pushed _ _ start.args.count start.args.i (partner_of start.args.p) (partner-alone start.args.p c.in_default.is),
       omega
           arith,
@@ -17,7 +17,7 @@ returns c =
 put-requires : tie.Need-put-requires
 unfolding PairFits
 put-requires c κs =
-    let start = c.before.before.before.before.before.before.before in (
+    let start = c.before.before.before.before.before in (
       start.requires.0,
       (
         start.requires.1,
@@ -28,7 +28,7 @@ put-requires c κs =
 
 returns-2 : tie.Need-returns
 returns-2 c =
-    let start = c.before.before.before.before.before.before.before.before.before.before.before.before in
+    let start = c.before.before.before.before.before.before.before.before.before.before in
     let told = c.p in
     let put = c.put in (
       pair-pushed start.args.count start.args.i _ _ (partner_of start.args.p) (partner_named start.args.p _ _ told.given.1) put.ensures,

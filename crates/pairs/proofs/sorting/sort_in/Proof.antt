@@ -19,12 +19,12 @@ decreases-loop costs₀ numbers₀ i count p at₀ costs numbers at = count - at
 
 pair-requires : tie.Need-pair-p-requires invariant-loop decreases-loop
 pair-requires c κs =
-    let start = c.before.before.before.before in
+    let start = c.before.before in
     among start.args.i start.requires.0 refl refl start.requires.1
 
 loop-holds : tie.Need-loop-at-init invariant-loop decreases-loop
 loop-holds c =
-    let start = c.before.before.before.before.before in (
+    let start = c.before.before.before in (
       start.requires.1,
       refl,
       refl,
@@ -35,20 +35,20 @@ loop-holds c =
 
 pair-requires-2 : tie.Need-pair-q-requires invariant-loop decreases-loop
 pair-requires-2 c κs =
-    let start = c.before.before.before.before.before.before.before.before.before in
+    let start = c.before.before.before.before.before in
     let inv = c.loop-at.invariant in among (c.loop-at.at + 1) start.requires.0 inv.1 inv.2
     c.loop-at-test.true
 
 put-requires : tie.Need-put-requires invariant-loop decreases-loop
 put-requires c κs =
-    let start = c.before.before.before.before.before.before.before.before.before.before.before.before.before.before.before in
+    let start = c.before.before.before.before.before.before.before.before.before.before.before in
     let loop = c.loop-at in
     let pair2 = c.pair-q in
     let inv = loop.invariant in (among loop.at start.requires.0 inv.1 inv.2 inv.0, pair2.ensures.1)
 
 put-requires-2 : tie.Need-put-requires-else-q-p invariant-loop decreases-loop
 put-requires-2 c κs =
-    let start = c.before.before.before.before.before.before.before.before.before.before.before.before.before.before.before in
+    let start = c.before.before.before.before.before.before.before.before.before.before.before in
     let loop = c.loop-at in
     let inv = loop.invariant in (among loop.at start.requires.0 inv.1 inv.2 inv.0, inv.3)
 
@@ -66,7 +66,7 @@ same-length-2 c =
 
 returns : tie.Need-returns-else-q-p invariant-loop decreases-loop
 returns c =
-    let start = c.before.before.before.before.before.before.before.before.before.before.before.before.before.before.before.before.before.before.before.before in
+    let start = c.before.before.before.before.before.before.before.before.before.before.before.before.before.before.before.before in
     let pair = c.pair-p in
     let more = c.loop-at-test in
     let pair2 = c.pair-q in
@@ -77,7 +77,7 @@ returns c =
 
 loop-again : tie.Need-loop-at-preserved invariant-loop decreases-loop
 loop-again c =
-    let start = c.before.before.before.before.before.before.before.before.before.before.before.before.before.before.before.before.before.before.before.before in
+    let start = c.before.before.before.before.before.before.before.before.before.before.before.before.before.before.before.before in
     let pair = c.pair-p in
     let more = c.loop-at-test in
     let pair2 = c.pair-q in
@@ -93,7 +93,7 @@ loop-again c =
 
 put-requires-3 : tie.Need-put-requires-2 invariant-loop decreases-loop
 put-requires-3 c κs =
-    let start = c.before.before.before.before.before.before.before.before.before in
+    let start = c.before.before.before.before.before.before.before in
     let inv = c.loop-at.invariant in (among c.loop-at.at start.requires.0 inv.1 inv.2 inv.0, inv.3)
 
 same-length-3 : tie.Need-shape_of-costs invariant-loop decreases-loop
@@ -110,7 +110,7 @@ same-length-4 c =
 
 returns-2 : tie.Need-returns invariant-loop decreases-loop
 returns-2 c =
-    let start = c.before.before.before.before.before.before.before.before.before.before.before.before.before.before in
+    let start = c.before.before.before.before.before.before.before.before.before.before.before.before in
     let pair = c.pair-p in
     let more = c.loop-at-test in
     let put3 = c.put-2 in

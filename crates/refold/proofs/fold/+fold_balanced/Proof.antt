@@ -157,7 +157,7 @@ add-join t c = place-fits t (c.before.before.before.before.before.before.before.
 
 join-requires : (t : ℕ) → fold-balanced-lts.Need-join-requires (calls t) (fold-balanced-at t) fold-balanced.Post
 join-requires t c κs =
-    let start = c.before.before.before.before.before.before.before.before.before.before.before.before.before.before.before in
+    let start = c.before.before.before.before.before.before.before.before.before.before.before.before.before.before in
     let fold-balanced = c.fold-balanced in
     let list = start.args.list.now in
     let two = halves t (c.before.before.before.before.before.before.before.before.before.before.before) in

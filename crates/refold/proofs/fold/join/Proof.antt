@@ -11,7 +11,7 @@ use Rattle.refold.proofs.fold.join.Tie as tie
 
 merge-requires : tie.Need-merge-requires
 merge-requires c κs =
-    let start = c.before.before.before.before in (
+    let start = c.before.before.before in (
       start.requires.0,
       subst (Shaped start.args.s.feature start.args.s.dim) (sym c.load-c.ensures)
           (slot_shaped start.args.s start.requires.0.sized start.args.scratch.now start.args.from),
@@ -19,7 +19,7 @@ merge-requires c κs =
 
 returns : tie.Need-returns
 returns c =
-    let start = c.before.before.before.before.before.before.before in
+    let start = c.before.before.before.before.before.before in
     let load = c.load-c in
     folded_as (ap (merge start.args.s (summary_at start.args.s start.args.scratch.now start.args.at)) load.ensures)
     (stored_folded _ c.merge.ensures)

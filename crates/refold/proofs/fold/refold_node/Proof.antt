@@ -19,7 +19,7 @@ use Rattle.refold.proofs.fold.refold_node.Tie as tie
 
 fold-balanced-requires : tie.Need-fold_balanced-requires
 fold-balanced-requires c κs =
-    let start = c.before.before.before.before.before.before.before in
+    let start = c.before.before.before.before.before.before in
     let (gs, u) = start.requires.0.2 in
     let s = start.args.s in
     let n = start.args.n in
@@ -39,13 +39,13 @@ fold-balanced-requires c κs =
 
 load-requires : tie.Need-load-c-requires
 load-requires c κs =
-    let start = c.before.before.before.before.before.before.before.before.before.before.before in
+    let start = c.before.before.before.before.before.before.before.before.before in
     let s = start.args.s in
     first_slot s start.requires.0.0.sized _ (rw c.fold_balanced.auto.scratch start.requires.1.1)
 
 put-requires : tie.Need-put-requires
 put-requires c κs =
-    let start = c.before.before.before.before.before.before.before.before.before.before.before.before.before in (
+    let start = c.before.before.before.before.before.before.before.before.before.before.before in (
       start.requires.0.0,
       start.requires.0.3,
       subst (Shaped start.args.s.feature start.args.s.dim) (sym c.load-c.ensures)
@@ -54,7 +54,7 @@ put-requires c κs =
 
 returns : tie.Need-returns
 returns c =
-    let start = c.before.before.before.before.before.before.before.before.before.before.before.before.before.before.before.before in
+    let start = c.before.before.before.before.before.before.before.before.before.before.before.before.before.before in
     let is_leaf = c.is_leaf-leaf in
     let list = c.list-list in
     let fold-balanced = c.fold_balanced in

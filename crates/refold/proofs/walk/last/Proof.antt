@@ -29,24 +29,24 @@ inner : (c : tie.After-list-list invariant-loop decreases-loop) (fs : List Float
     c.args.links.now) c.loop-left.at).leaf ≡ false
 inner c fs = sym (c.is_leaf.ensures fs) ∙ c.if-is_leaf.false
 
-some : (c : tie.After-list-list invariant-loop decreases-loop) → 0 < length c.list.result.now
+some : (c : tie.After-list-list invariant-loop decreases-loop) → 0 < length c.list-list.result.now
 some c =
     let start = c.before.before.before.before.before.before in
     let loop = c.loop-left in
     let (fs, u) = start.requires.1 in
-    subst (λ l. 0 < length l) (sym (c.list.ensures fs))
+    subst (λ l. 0 < length l) (sym (c.list-list.ensures fs))
     (u.inners loop.at (rw (count_nodes_lem start.args.s start.args.n fs start.args.links.now) loop.invariant.0) (inner c fs))
 
-kid_in : (c : tie.After-list-list invariant-loop decreases-loop) → get_or c.list.result.now (length c.list.result.now - 1) 0 <
+kid_in : (c : tie.After-list-list invariant-loop decreases-loop) → get_or c.list-list.result.now (length c.list-list.result.now - 1) 0 <
     c.args.n.nodes
 kid_in c =
     let start = c.before.before.before.before.before.before in
     let loop = c.loop-left in
     let (fs, u) = start.requires.1 in
     node_listed start.args.n _
-    (subst (ChildrenIn start.args.n false) (sym (c.list.ensures fs))
+    (subst (ChildrenIn start.args.n false) (sym (c.list-list.ensures fs))
     (frame_children start.args.s start.args.n fs start.args.links.now u.framed loop.at loop.invariant.0 false (inner c fs)))
-    (length c.list.result.now - 1) (omega (arith, some c))
+    (length c.list-list.result.now - 1) (omega (arith, some c))
 
 loop-holds : tie.Need-loop-left-init invariant-loop decreases-loop
 loop-holds c = (c.requires.2, λ fs. refl)

@@ -17,7 +17,7 @@ lent c = lending c.args.floats.now c.args.links.now c.args.scratch.now c.args.nu
 
 -- where nothing before 6 applies
 abbrev start : tie.In-Accepted → tie.Start
-start c = c.before.before.before.before.before.before.before.before
+start c = c.before.before.before.before.before.before.before
 
 accepts : (c : tie.In-Accepted) → answer_of (before_full (start c).args.h (lent (start c)) (start c).args.rows.now) ≡ Accepted
 accepts c = sym c.rows_asked-a.ensures ∙ c.in-Accepted.is
@@ -27,7 +27,7 @@ ready c = rows_grants _ _ _ (accepts c)
 
 returns : tie.Need-returns-in_default
 returns c =
-    let start = c.before.before.before.before.before.before.before.before in
+    let start = c.before.before.before.before.before.before.before in
     let asked = c.rows_asked-a in
     asked.ensures ∙ answer_first _ _ (sym asked.ensures ∙ c.in_default.is)
     ∙ ap answer_of (batch_parts start.args.h (lent start) start.args.rows.now)

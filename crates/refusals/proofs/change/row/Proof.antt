@@ -16,7 +16,7 @@ lent c = lending c.args.floats.now c.args.links.now c.args.scratch.now c.args.nu
 
 -- where 1, 2 and 3 do not apply
 abbrev start : tie.In-Accepted → tie.Start
-start c = c.before.before.before.before.before.before.before.before
+start c = c.before.before.before.before.before.before.before
 
 accepts : (c : tie.In-Accepted) → answer_of (change_refusals (start c).args.h (lent (start c))) ≡ Accepted
 accepts c = sym c.change-a.ensures ∙ c.in-Accepted.is

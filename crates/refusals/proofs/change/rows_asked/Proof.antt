@@ -13,7 +13,7 @@ use Rattle.refusals.proofs.change.rows_asked.Tie as tie
 
 -- where 1, 2 and 3 do not apply
 abbrev start : tie.In-Accepted → tie.Start
-start c = c.before.before.before.before.before.before.before.before
+start c = c.before.before.before.before.before.before.before
 
 accepts : (c : tie.In-Accepted) → let a = (start c).args in
     answer_of (change_refusals a.h (lending a.floats.now a.links.now a.scratch.now a.numbers.now)) ≡ Accepted

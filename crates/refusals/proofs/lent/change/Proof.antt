@@ -30,7 +30,7 @@ rest c = let h = c.args.h in tree_refusal (checked (settings_of h) (lent_tree h 
 
 -- where settings and room are granted
 abbrev start : tie.In-Accepted → tie.Start
-start c = c.before.before.before.before.before.before.before
+start c = c.before.before.before.before.before.before
 
 accepts : (c : tie.In-Accepted) → answer_of (create_refusals (start c).args.h (start c).args.floats.now (start c).args.links.now) ≡ Accepted
 accepts c = sym c.create-a.ensures ∙ c.in-Accepted.is
@@ -41,7 +41,7 @@ roomy c = create_grants _ _ _ (accepts c)
 returns : tie.Need-returns-in_default
 returns c =
     let create = c.create-a in
-    let start = c.before.before.before.before.before.before.before in
+    let start = c.before.before.before.before.before.before in
     create.ensures ∙ answer_first _ _ (sym create.ensures ∙ c.in_default.is) ∙ ap answer_of (change_parts start.args.h (lent start))
 
 scratch-floats-needed-requires : tie.Need-scratch_floats_needed-requires
@@ -53,7 +53,7 @@ scratch-links-needed-requires c κs = rw c.settings-s.ensures (roomy (c.before.b
 returns-2 : tie.Need-returns-in_default-b
 returns-2 c =
     let room = c.room-b in
-    let start = c.before.before.before.before.before.before.before.before.before.before.before.before.before in
+    let start = c.before.before.before.before.before.before.before.before.before.before.before in
     let e : room.result ≡ answer_of (scratch start) = rw (c.scratch_links_needed.ensures, c.scratch_floats_needed.ensures, c.settings-s.ensures) at
     room.ensures in
     e ∙ answer_first (scratch start) (rest start) (sym e ∙ c.in_default-b.is) ∙ answer_then _ _ (accepts (c.before.before.before.before.before.before)) ∙ ap answer_of (change_parts start.args.h (lent start))
@@ -65,7 +65,7 @@ returns-3 : tie.Need-returns
 unfolding lent_tree
 returns-3 c =
     let room = c.room-b in
-    let start = c.before.before.before.before.before.before.before.before.before.before.before.before.before.before in
+    let start = c.before.before.before.before.before.before.before.before.before.before.before.before.before in
     let e : room.result ≡ answer_of (scratch start) = rw (c.scratch_links_needed.ensures, c.scratch_floats_needed.ensures, c.settings-s.ensures) at
     room.ensures in
     let f : c.tree_check.result ≡ answer_of (rest start) = rw c.settings-s.ensures at c.tree_check.ensures in

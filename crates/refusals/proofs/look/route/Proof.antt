@@ -14,7 +14,7 @@ use Rattle.refusals.proofs.look.route.Tie as tie
 
 -- where 1, 2 and 3 do not apply
 abbrev start : tie.In-Accepted → tie.Start
-start c = c.before.before.before.before.before.before.before
+start c = c.before.before.before.before.before.before
 
 accepts : (c : tie.In-Accepted) → answer_of (tree_refusals (start c).args.h (start c).args.floats.now (start c).args.links.now) ≡ Accepted
 accepts c = sym c.look-a.ensures ∙ c.in-Accepted.is

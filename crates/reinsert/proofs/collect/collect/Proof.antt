@@ -187,10 +187,10 @@ loop-again c =
     -- in either branch w .2 is the call, and w.5 to w.8 say what scratch, stack, high and count have become
     elim c.if-is_leaf.branch [
       | then-is_leaf w ↦ (
-        ap length w.5 ∙ w.2.kept.1.1.1.1.0 ∙ at.loop-left.inv.0,
-        ap length w.6 ∙ at.loop-left.inv.1,
+        ap length w.scratch-is ∙ w.copy_entries-count.kept.1.1.1.1.0 ∙ at.loop-left.inv.0,
+        ap length w.stack-is ∙ at.loop-left.inv.1,
         collect_leaf a.s t at.loop-left.left (done at) (top at) (others at) (opened at (some read)) (more read) (kind read w.if-is_leaf.true)
-            (ap₂ (slots_in a.s) w.5 w.8 ∙ w.2.ensures.1 a.links.now ∙ ap (λ l. done at ++ map (entry_at t) l) (list read))
+            (ap₂ (slots_in a.s) w.scratch-is w.count-is ∙ w.copy_entries-count.ensures.1 a.links.now ∙ ap (λ l. done at ++ map (entry_at t) l) (list read))
             (ap₂ waiting w.6 w.7),
       )
       | else-is_leaf w ↦ (

@@ -14,35 +14,35 @@ abbrev second : tie.After-refill → tie.After-gather-b
 second c = c.before.before.before.before
 
 abbrev first : tie.After-gather-b → tie.After-gather-a
-first c = c.before.before.before
+first c = c.before.before
 
 abbrev read : tie.After-gather-a → tie.After-parent-parent
-read c = c.before.before.before.before.before
+read c = c.before.before.before.before
 
 abbrev kind : tie.After-parent-parent → tie.After-is_leaf-leaf
-kind c = c.before.before
+kind c = c.before
 
 abbrev start : tie.After-is_leaf-leaf → tie.Start
-start c = c.before.before.before.before
+start c = c.before.before.before
 
 slice-aggregate-gather : tie.Need-slice_bounds-gather-end
 slice-aggregate-gather c =
-    let s = start (kind c.before.before.before.before) in
+    let s = start (kind c.before.before.before) in
     sym (length-take-le s.args.h.ones s.args.h.one-1 (omega (arith, s.requires.1.ones-few, s.requires.1.one_long)))
 
 gather-requires : tie.Need-gather-a-requires
 gather-requires c κs =
-    let k = kind c.before.before.before.before in
+    let k = kind c.before.before.before in
     ((start k).requires.0.0, rw (k.is_leaf-leaf.ensures (start k).args.floats.now) (start k).requires.1.ones_in_lem)
 
 slice-aggregate-gather-2 : tie.Need-slice_bounds-gather-end-2
 slice-aggregate-gather-2 c =
-    let s = start (kind (read c.before.before)) in
+    let s = start (kind (read c.before)) in
     sym (length-take-le s.args.h.twos s.args.h.two-1 (omega (arith, s.requires.1.twos-few, s.requires.1.two_long)))
 
 gather-requires-2 : tie.Need-gather-b-requires
 gather-requires-2 c κs =
-    let k = kind (read c.before.before) in
+    let k = kind (read c.before) in
     ((start k).requires.0.0, rw (k.is_leaf-leaf.ensures (start k).args.floats.now) (start k).requires.1.twos_in)
 
 slice-aggregate-refill : tie.Need-slice_bounds-refill-end

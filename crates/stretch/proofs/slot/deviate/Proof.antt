@@ -21,20 +21,18 @@ sq-euclidean-requires c κs = (search rules, search rules, simp length-take (ome
 
 returns : tie.Need-returns-in-Spherical
 returns c =
-    let enum_told = c.enum_told-1 in
-    let start = c.before.before.before.before.before.before.before in
+    let start = c.before.before.before.before.before in
     let a = start.args in
     deviate_one a.dim a.coef c.sq_euclidean-sum.result a.q.now a.x.now c.sq_euclidean-sum.ensures ∙ ap
-    (λ f. take a.dim a.q.now ++ deviated f a.dim a.coef a.q.now (drop a.dim a.q.now) a.x.now) (sym enum_told.given.1)
+    (λ f. take a.dim a.q.now ++ deviated f a.dim a.coef a.q.now (drop a.dim a.q.now) a.x.now) (sym c.in-Spherical.is)
 
 returns-2 : tie.Need-returns-in-Diagonal
 unfolding deviated
 returns-2 c =
-    let enum-told2 = c.enum_told-in-Diagonal-1 in
-    let start = c.before.before.before.before.before.before.before.before in
+    let start = c.before.before.before.before.before.before.before in
     let a = start.args in
     c.widen.ensures ∙ widened (added_at a.coef a.q.now (drop a.dim a.q.now) a.x.now) a.dim a.q.now ∙ ap
-    (λ f. take a.dim a.q.now ++ deviated f a.dim a.coef a.q.now (drop a.dim a.q.now) a.x.now) (sym enum-told2.given.1)
+    (λ f. take a.dim a.q.now ++ deviated f a.dim a.coef a.q.now (drop a.dim a.q.now) a.x.now) (sym c.in-Diagonal.is)
 
 pub deviate_spec : {M : Type 1} → statement M
 deviate_spec =

@@ -17,7 +17,7 @@ returns c =
     let start = c.before.before.before.before.before.before.before.before.before in
     let copied = copy in
     let l : length start.args.from ≡ 8 = search rules in
-    fill_parts start.args.n (start.args.n - 0) start.args.p.now start.args.from copied.new.1.1.0
+    fill_parts start.args.n (start.args.n - 0) start.args.p.now start.args.from copied.new.p
     c.zero.new.p (omega arith) (omega arith) (ap length copied.ensures ∙ length-take-le start.args.n start.args.from
     (omega arith)) copied.ensures c.zero.ensures
 

@@ -56,9 +56,9 @@ loop-again c =
     let a = start.args in
     let loop = c.loop-left in
     let f = node_distance a.s a.form a.x.now (tree_of a.s a.n a.floats.now a.links.now) in
-    let near = c.nearest_child-i.ensures.any_links a.links.now ∙ ap (closest f) (c.list.ensures a.floats.now) in
+    let near = c.nearest_child-i.ensures.0 a.links.now ∙ ap (closest f) (c.list.ensures a.floats.now) in
     let inner = sym (c.is_leaf.ensures a.floats.now) ∙ c.if-is_leaf.false in
-    (c.nearest_child-i.ensures.upper_bound, down_on _ _ loop.left loop.i (omega arith) inner near ∙ loop.invariant.1)
+    (c.nearest_child-i.ensures.1, down_on _ _ loop.left loop.i (omega arith) inner near ∙ loop.invariant.1)
 
 returns-2 : tie.Need-returns invariant-loop decreases-loop
 returns-2 c = let loop = c.loop-left in (sym (down_end _ _ loop.left loop.i (omega arith)) ∙ loop.invariant.1, loop.invariant.0)

@@ -24,14 +24,14 @@ abbrev tree : tie.Start → Tree
 tree c = tree_of c.args.s c.args.n c.args.floats.now c.args.links.now
 
 leaf : (c : tie.After-descend-leaf) → c.descend-leaf.result ≡ leaf_for (tree (start c)) (λ d. dist_to (start c).args.s d (start c).args.row.now)
-leaf c = c.descend-leaf.ensures.value ∙ ap (λ i. leaf_for (tree (start c)) i.near) (item_row (start c).args.s (start c).args.row.now)
+leaf c = c.descend-leaf.ensures.0 ∙ ap (λ i. leaf_for (tree (start c)) i.near) (item_row (start c).args.s (start c).args.row.now)
 
 path : (c : tie.After-feed_path)
     → tree_of (start (found c)).args.s (start (found c)).args.n c.feed_path.new.floats (start (found c)).args.links.now
     ≡ along_path (push (start (found c)).args.s (start (found c)).args.row.now) (found c).descend-leaf.result (tree (start (found c)))
 path c =
     let a = (start (found c)).args in
-    c.feed_path.ensures ∙ ap (λ i. along_path i.true (found c).descend-leaf.result (tree (start (found c)))) (item_row a.s a.row.now)
+    c.feed_path.ensures ∙ ap (λ i. along_path i.taken (found c).descend-leaf.result (tree (start (found c)))) (item_row a.s a.row.now)
 
 descend-requires : tie.Need-descend-leaf-requires
 descend-requires c κs =
@@ -42,7 +42,7 @@ feed-path-requires : tie.Need-feed_path-requires
 feed-path-requires c κs =
     let start = start c.before in (
       (start.requires.0.0, start.requires.0.1, fits_row start.args.s start.args.row.now start.requires.0.2),
-      (growable_sure _ _ start.requires.1, c.descend-leaf.ensures.upper_bound),
+      (growable_sure _ _ start.requires.1, c.descend-leaf.ensures.1),
     )
 
 try-absorb-requires : tie.Need-try_absorb-m-requires
@@ -52,7 +52,7 @@ try-absorb-requires c κs =
     let start = start down in
     let a = start.args in (
       (rw fed.feed_path.auto.floats start.requires.0.0, start.requires.0.1, start.requires.0.2),
-      row_place a.s a.n a.floats.now _ a.links.now a.row.now _ start.requires.1 (leaf down) down.descend-leaf.ensures.upper_bound (path fed),
+      row_place a.s a.n a.floats.now _ a.links.now a.row.now _ start.requires.1 (leaf down) down.descend-leaf.ensures.1 (path fed),
     )
 
 split-if-over-requires : tie.Need-split_if_over-requires
@@ -62,9 +62,9 @@ split-if-over-requires c κs =
     let down = found fed in
     let start = start down in
     let a = start.args in
-    let floats = rw (sym placed.try_absorb-m.auto.floats) at placed.try_absorb-m.ensures.floats_2.0 in (
-      (floats, rw (sym placed.try_absorb-m.auto.links) at placed.try_absorb-m.ensures.floats_2.1),
-      row_rising a.s a.n a.floats.now _ a.links.now a.row.now _ start.requires.1 (leaf down) _ _ _ (path fed) placed.try_absorb-m.ensures.links_after
+    let floats = rw (sym placed.try_absorb-m.auto.floats) at placed.try_absorb-m.ensures.0.0 in (
+      (floats, rw (sym placed.try_absorb-m.auto.links) at placed.try_absorb-m.ensures.0.1),
+      row_rising a.s a.n a.floats.now _ a.links.now a.row.now _ start.requires.1 (leaf down) _ _ _ (path fed) placed.try_absorb-m.ensures.1
           floats,
     )
 
@@ -77,10 +77,10 @@ returns c =
     let start = start down in
     let a = start.args in (
       (
-        rw (placed.try_absorb-m.auto.floats, fed.feed_path.kept.1.1.0) at split.ensures.0.0,
+        rw (placed.try_absorb-m.auto.floats, fed.feed_path.auto.floats) at split.ensures.0.0,
         rw placed.try_absorb-m.auto.links at split.ensures.0.1,
       ),
-      grown-is a.s a.n a.floats.now _ a.links.now a.row.now _ start.requires.1 (leaf down) _ _ _ (path fed) placed.try_absorb-m.ensures.links_after
+      grown-is a.s a.n a.floats.now _ a.links.now a.row.now _ start.requires.1 (leaf down) _ _ _ (path fed) placed.try_absorb-m.ensures.1
           split.ensures.1,
     )
 

@@ -35,14 +35,14 @@ abbrev summary : tie.Start → Summary
 summary c = summary_in c.args.s c.args.x.now
 
 leaf : (c : tie.After-descend-leaf) → c.descend-leaf.result ≡ leaf_for (tree (start c)) (λ d. dist_between (start c).args.s d (summary (start c)))
-leaf c = c.descend-leaf.ensures.value ∙ ap (λ i. leaf_for (tree (start c)) i.near) (item_slot (start c).args.s (start c).args.x.now)
+leaf c = c.descend-leaf.ensures.0 ∙ ap (λ i. leaf_for (tree (start c)) i.near) (item_slot (start c).args.s (start c).args.x.now)
 
 path : (c : tie.After-feed_path)
     → tree_of (start (found c)).args.s (start (found c)).args.n c.feed_path.new.floats (start (found c)).args.links.now
     ≡ along_path (λ d. merge (start (found c)).args.s d (summary (start (found c)))) (found c).descend-leaf.result (tree (start (found c)))
 path c =
     let a = (start (found c)).args in
-    c.feed_path.ensures ∙ ap (λ i. along_path i.true (found c).descend-leaf.result (tree (start (found c)))) (item_slot a.s a.x.now)
+    c.feed_path.ensures ∙ ap (λ i. along_path i.taken (found c).descend-leaf.result (tree (start (found c)))) (item_slot a.s a.x.now)
 
 place : (c : tie.After-feed_path)
     → Place (start (found c)).args.s (start (found c)).args.n (found c).descend-leaf.result
@@ -50,7 +50,7 @@ place : (c : tie.After-feed_path)
 place c =
     let down = found c in
     let a = (start down).args in
-    entry_place a.s a.n a.floats.now _ a.links.now (summary (start down)) _ (start down).requires.1 (leaf down) down.descend-leaf.ensures.upper_bound (path c)
+    entry_place a.s a.n a.floats.now _ a.links.now (summary (start down)) _ (start down).requires.1 (leaf down) down.descend-leaf.ensures.1 (path c)
 
 listed : (c : tie.After-begin-m)
     → tree_of (start (found (fed c))).args.s c.begin-m.result c.begin-m.new.floats c.begin-m.new.links
@@ -58,16 +58,16 @@ listed : (c : tie.After-begin-m)
     (tree_of (start (found (fed c))).args.s (start (found (fed c))).args.n (fed c).feed_path.new.floats (start (found (fed c))).args.links.now)
 listed c =
     let a = (start (found (fed c))).args in
-    c.begin-m.ensures.links_after
+    c.begin-m.ensures.1
     ∙ ap (λ e. begun (found (fed c)).descend-leaf.result e (tree_of a.s a.n (fed c).feed_path.new.floats a.links.now)) c.load.ensures
 
 floats : (c : tie.After-begin-m) {k : ℕ} → k ≡ length (start (found (fed c))).args.floats.now → Floats (start (found (fed c))).args.s c.begin-m.result k
 floats c q =
     let start = start (found (fed c)) in
-    floats-begun start.args.s start.args.n _ c.begin-m.ensures.value q start.requires.0.0 (place (fed c)).room
+    floats-begun start.args.s start.args.n _ c.begin-m.ensures.0 q start.requires.0.0 (place (fed c)).room
 
 links : (c : tie.After-begin-m) {k : ℕ} → k ≡ length (start (found (fed c))).args.links.now → Links (start (found (fed c))).args.s c.begin-m.result k
-links c q = let start = start (found (fed c)) in links_begun start.args.s start.args.n _ c.begin-m.ensures.value q start.requires.0.1
+links c q = let start = start (found (fed c)) in links_begun start.args.s start.args.n _ c.begin-m.ensures.0 q start.requires.0.1
 
 descend-requires : tie.Need-descend-leaf-requires
 descend-requires c κs =
@@ -78,7 +78,7 @@ feed-path-requires : tie.Need-feed_path-requires
 feed-path-requires c κs =
     let start = start c.before in (
       (start.requires.0.0, start.requires.0.1, fits_slot start.args.s start.args.x.now start.requires.0.2),
-      (placeable_sure _ _ _ start.requires.1, c.descend-leaf.ensures.upper_bound),
+      (placeable_sure _ _ _ start.requires.1, c.descend-leaf.ensures.1),
     )
 
 load-requires : tie.Need-load-requires
@@ -112,7 +112,7 @@ split-up-requires c κs =
     let down = found fed in
     let start = start down in
     let a = start.args in
-    let long = floats begun (begun.begin-m.auto.floats ∙ fed.feed_path.kept.1.1.0) in (
+    let long = floats begun (begun.begin-m.auto.floats ∙ fed.feed_path.auto.floats) in (
       (long, links begun begun.begin-m.auto.links),
       entry_rising a.s a.n a.floats.now _ a.links.now (summary start) _ start.requires.1 (leaf down) _ _ _ (path fed) (listed begun) long,
     )
@@ -126,7 +126,7 @@ returns c =
     let start = start down in
     let a = start.args in (
       (
-        rw (begun.begin-m.auto.floats, fed.feed_path.kept.1.1.0) at split.ensures.0.0,
+        rw (begun.begin-m.auto.floats, fed.feed_path.auto.floats) at split.ensures.0.0,
         rw begun.begin-m.auto.links at split.ensures.0.1,
       ),
       replaced-is a.s a.n a.floats.now _ a.links.now (summary start) _ start.requires.1 (leaf down) _ _ _ (path fed) (listed begun)

@@ -46,11 +46,11 @@ found : (c : tie.After-search_leaf-near)
     ≡ searched (entry_distance (start c).args.s (start c).args.row.now (tree (start c))) (node_at (tree (start c)) (start c).args.leaf).list
 found c =
     let a = (start c).args in
-    c.search_leaf-near.ensures.any_links a.links.now
+    c.search_leaf-near.ensures.0 a.links.now
     ∙ ap (searched (entry_distance a.s a.row.now (tree (start c)))) (c.list.ensures a.floats.now)
 
 there : (c : tie.After-search_leaf-near) {e : ℕ} → c.search_leaf-near.result ≡ Entry e → e < (start c).args.n.entries
-there c q = entry_inside (start c).args.n.entries _ _ q c.search_leaf-near.ensures.inside
+there c q = entry_inside (start c).args.n.entries _ _ q c.search_leaf-near.ensures.1
 
 -- the summary of the row alone, from either branch
 row_fits : (c : tie.Start) → FormFits c.args.s Row c.args.row.now

@@ -24,7 +24,7 @@ growing c = c.before.before.before.before
 
 -- the tree with the row has as many entries as the counters say
 entries : (c : tie.After-grow-m) → length (grown (start c).args.s (row_item (start c).args.s (start c).args.row.now) (tree (start c))).entries ≡ c.grow-m.result.entries
-entries c = ap (λ t. length t.entries) (sym c.grow-m.ensures.links_after) ∙ count_entries_lem (start c).args.s c.grow-m.result _ _
+entries c = ap (λ t. length t.entries) (sym c.grow-m.ensures.1) ∙ count_entries_lem (start c).args.s c.grow-m.result _ _
 
 grow-requires : tie.Need-grow-m-requires
 grow-requires c κs =
@@ -51,7 +51,7 @@ returns c =
     let start = start grown in
     let grow = grown.grow-m in
     let new = c.rebuild in (
-      (rw grow.kept.1.1.0 at new.ensures.0.0, rw grow.kept.1.1.1.0 at new.ensures.0.1),
+      (rw grow.auto.1.1.0 at new.ensures.0.0, rw grow.auto.1.1.1.0 at new.ensures.0.1),
       new.ensures.1 ∙ ap (rebuilt start.args.s) grow.ensures.1
           ∙ with_rebuild start.args.s start.args.row.now (tree start) (rw (entries grown) test.true),
     )

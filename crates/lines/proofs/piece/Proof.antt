@@ -15,7 +15,7 @@ copy-requires c κs =
 sub-n : tie.Need-overflow_sub-n
 sub-n c =
     let copy = c.before.before.before.before in
-    omega (arith, copy.copy-next.ensures.long_le_long.0)
+    omega (arith, copy.copy-next.ensures.0.0)
 
 returns : tie.Need-returns-then-n-bytes
 returns c =
@@ -32,7 +32,7 @@ returns c =
 shared-slice-read-byte : tie.Need-bounds-bytes-n
 shared-slice-read-byte c =
     let copy = c.before.before.before.before.before.before in
-    omega (arith, copy.copy-next.ensures.long_le_long.0, copy.copy-next.ensures.long_le_long.1, c.if-n-bytes.false)
+    omega (arith, copy.copy-next.ensures.0.0, copy.copy-next.ensures.0.1, c.if-n-bytes.false)
 
 byte-requires : tie.Need-byte-end-requires
 byte-requires c κs =
@@ -47,7 +47,7 @@ add-t13 c =
     let else1 = c.before.before.before.before.before.before.before.before.before.before.before.before.before.before.before.before.before in
     let copy = else1.before.before.before.before.before in
     let start = copy.before.before.before.before.before.before.before.before in
-    let good = start.well_formed in omega (arith, copy.copy-next.ensures.long_le_long.0, copy.copy-next.ensures.long_le_long.1, else1.if-n-bytes.false)
+    let good = start.well_formed in omega (arith, copy.copy-next.ensures.0.0, copy.copy-next.ensures.0.1, else1.if-n-bytes.false)
 
 returns-2 : tie.Need-returns
 returns-2 c =
@@ -59,8 +59,8 @@ returns-2 c =
     let w = copy.copy-next.ensures in
     let n = copy.copy-next.result.long - a.run.long in
     let more : n < length a.bytes.now = omega (arith, w.0.0, w.0.1, else1.if-n-bytes.false) in (
-      (omega arith, omega (arith, more), byte.byte-end.ensures.reading_2),
-      reads_more a.bytes.now n more (w.1.reads a.floats.now a.links.now start.requires.1.0) byte.byte-end.ensures.reads,
+      (omega arith, omega (arith, more), byte.byte-end.ensures.0),
+      reads_more a.bytes.now n more (w.1.reads a.floats.now a.links.now start.requires.1.0) byte.byte-end.ensures.1,
     )
 
 pub piece_spec : {M : Type 1} → statement M

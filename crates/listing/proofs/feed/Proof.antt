@@ -45,7 +45,7 @@ add-i c =
     let in-loop = piece.before.before.before.before.before.before.before in
     let turn = in-loop.before in
     let start = turn.before.before.before.before.before.before.before in
-    let good = start.well_formed in omega (arith, piece.piece-p.ensures.read_nonzero.1, rest_long start.args.chunk.now turn.loop-i.i, in-loop.loop-i-test.true)
+    let good = start.well_formed in omega (arith, piece.piece-p.ensures.0.1, rest_long start.args.chunk.now turn.loop-i.i, in-loop.loop-i-test.true)
 
 loop-less : tie.Need-loop-i-smaller invariant-loop decreases-loop
 loop-less c =
@@ -53,7 +53,7 @@ loop-less c =
     let in-loop = piece.before.before.before.before.before.before.before in
     let turn = in-loop.before in
     let start = turn.before.before.before.before.before.before.before in
-    omega (arith, piece.piece-p.ensures.read_nonzero.0, piece.piece-p.ensures.read_nonzero.1, rest_long start.args.chunk.now turn.loop-i.i, in-loop.loop-i-test.true)
+    omega (arith, piece.piece-p.ensures.0.0, piece.piece-p.ensures.0.1, rest_long start.args.chunk.now turn.loop-i.i, in-loop.loop-i-test.true)
 
 loop-again : tie.Need-loop-i-preserved invariant-loop decreases-loop
 loop-again c =

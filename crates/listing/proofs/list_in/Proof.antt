@@ -28,8 +28,8 @@ returns c =
     let start = at-begin.before.before.before.before.before.before.before.before in
     let a = start.args in
     let begin = at-begin.begin in
-    wrote_is (all_listed begin.result a.line.now a.floats.now a.links.now begin.ensures feed.feed-r.ensures.reads)
-    finish.finish-end.ensures.wrote
+    wrote_is (all_listed begin.result a.line.now a.floats.now a.links.now begin.ensures feed.feed-r.ensures.1)
+    finish.finish-end.ensures.0
 
 pub list_in_spec : {M : Type 1} → statement M
 list_in_spec =

@@ -31,13 +31,13 @@ returns c =
     let start = c.before.before.before.before.before.before in
     let loop = c.loop-i in
     let if1 = c.loop-i-test in
-    λ fs. fails_at _ _ loop.i if1.true (c.list_fits_lem.ensures fs) (not-true _ c.if-not-list_fits.true-raw)
+    λ fs. fails_at _ _ loop.i if1.true (c.list_fits.ensures fs) (not-true _ c.if-not-list_fits.true-raw)
     ∙ nodes_placed start.args.s start.args.n fs start.args.links.now _
 
 loop-again : tie.Need-loop-i-preserved invariant-loop decreases-loop
 loop-again c =
     let loop = c.loop-i in
-    (omega arith, λ fs. passed_more _ loop.i (loop.invariant.1 fs) (c.list_fits_lem.ensures fs) (not-false _ c.if-not-list_fits.false-raw))
+    (omega arith, λ fs. passed_more _ loop.i (loop.invariant.1 fs) (c.list_fits.ensures fs) (not-false _ c.if-not-list_fits.false-raw))
 
 returns-2 : tie.Need-returns invariant-loop decreases-loop
 returns-2 c =

@@ -40,8 +40,8 @@ loop-again c =
     let loop = (turn stored).loop-i in
     let s = (turn stored).args.s in (
       omega (arith, stored.loop-i-test.true),
-      stored.store.auto.floats ∙ loop.inv.1,
-      empty_more s loop.i _ loop.scratch _ stored.empty.ensures stored.store.ensures loop.inv.2,
+      stored.store.auto.floats ∙ loop.invariant.1,
+      empty_more s loop.i _ loop.scratch _ stored.empty.ensures stored.store.ensures loop.invariant.2,
     )
 
 same_length : tie.Need-shape_of-scratch invariant-loop decreases-loop

@@ -62,7 +62,7 @@ push-requires : tie.Need-push-requires invariant-loop decreases-loop
 push-requires c κs =
     let read = c.before.before in
     let start = start (turn read) in
-    let here = c.route-e.ensures.upper_bound in (
+    let here = c.route-e.ensures.1 in (
       rw (turn read).loop-k.invariant.0
           (slot_there start.args.s _ _ start.requires.0.0.sized start.requires.0.2 (omega (arith, here, start.requires.0.0.entries_in))),
       omega (arith, wide read),
@@ -76,10 +76,10 @@ loop-again c =
     let loop = (turn read).loop-k in
     let start = start (turn read) in
     let a = start.args in (
-      push.push.auto.floats ∙ loop.inv.0,
+      push.push.auto.floats ∙ loop.invariant.0,
       pour_turn a.s a.n (tree start) a.rows.now a.count loop.k _ _ loop.scratch _ read.loop-k-test.true
-          route.route-e.ensures.upper_bound read.row-x.ensures route.route-e.ensures.value push.push.ensures
-          ∙ loop.inv.1,
+          route.route-e.ensures.1 read.row-x.ensures route.route-e.ensures.0 push.push.ensures
+          ∙ loop.invariant.1,
     )
 
 same_length : tie.Need-shape_of-scratch invariant-loop decreases-loop

@@ -27,8 +27,8 @@ returns c =
     let poured = poured put in
     let start = start poured in
     let links = start.args.links.now in
-    afresh start.args.s _ (tree start) _ _ _ _ poured.pour.ensures (put.put_back.ensures links) (flagged.flag_all.ensures.any_links links)
-    flagged.flag_all.ensures.value
+    afresh start.args.s _ (tree start) _ _ _ _ poured.pour.ensures (put.put_back.ensures links) (flagged.flag_all.ensures.0 links)
+    flagged.flag_all.ensures.1
 
 pub reaccumulate_spec : {M : Type 1} → statement M
 reaccumulate_spec =

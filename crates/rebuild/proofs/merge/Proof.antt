@@ -44,7 +44,7 @@ returns c =
     let paired = c.before.before.before.before.before.before.before.before.before.before.before.before.before.before.before.before.before.before in
     let start = start paired in
     let new = c.merge_by in
-    (new.ensures.0, new.ensures.1 ∙ by_siblings start.args.s (tree start) _ _ _ paired.sibling_pairs-near.ensures.result_after test.true)
+    (new.ensures.0, new.ensures.1 ∙ by_siblings start.args.s (tree start) _ _ _ paired.sibling_pairs-near.ensures.0 test.true)
 
 cousin-pairs-requires : tie.Need-cousin_pairs-far-requires
 cousin-pairs-requires c κs =
@@ -66,7 +66,7 @@ merge-by-requires-2 c κs =
       (
         start.requires.0.0,
         start.requires.0.1,
-        rw (far.auto.costs, far.auto.numbers, near.kept.1.1.1.1.0, near.kept.1.1.1.1.1.0)
+        rw (far.auto.costs, far.auto.numbers, near.auto.1.1.1.1.0, near.auto.1.1.1.1.1.0)
             start.requires.0.2,
       ),
       record {
@@ -83,8 +83,8 @@ returns-2 c =
     let start = start paired in
     let new = c.merge_by-2 in (
       new.ensures.0,
-      new.ensures.1 ∙ by_cousins start.args.s (tree start) _ _ _ paired.sibling_pairs-near.ensures.result_after
-          again.if-near-gt0.false _ again.cousin_pairs-far.ensures.result_after,
+      new.ensures.1 ∙ by_cousins start.args.s (tree start) _ _ _ paired.sibling_pairs-near.ensures.0
+          again.if-near-gt0.false _ again.cousin_pairs-far.ensures.0,
     )
 
 pub merge_spec : {M : Type 1} → statement M

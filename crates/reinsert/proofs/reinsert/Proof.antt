@@ -28,13 +28,13 @@ replace-all-requires c κs =
     let all = taken none in
     let start = start all in
     let a = start.args in
-    let counts = none.clear-m.ensures.value in (
+    let counts = none.clear-m.ensures.0 in (
       (
         rw none.clear-m.auto.floats (floats-cleared a.s a.n _ counts start.requires.0.0),
         rw none.clear-m.auto.links (links_cleared a.s a.n _ counts start.requires.0.1),
-        rw all.collect-count.kept.1.1.1.1.0 start.requires.1.0.0,
+        rw all.collect-count.auto.1.1.1.1.0 start.requires.1.0.0,
       ),
-      all_replaceable a.s (tree start) start.requires.1.1 all.collect-count.ensures none.clear-m.ensures.links_after start.requires.0.0.sized,
+      all_replaceable a.s (tree start) start.requires.1.1 all.collect-count.ensures none.clear-m.ensures.1 start.requires.0.0.sized,
     )
 
 returns : tie.Need-returns
@@ -44,7 +44,7 @@ returns c =
     let start = start all in
     let new = c.replace_all in (
       (rw none.clear-m.auto.floats at new.ensures.0.0, rw none.clear-m.auto.links at new.ensures.0.1),
-      reinserted-is start.args.s (tree start) start.requires.1.1 all.collect-count.ensures none.clear-m.ensures.links_after new.ensures.1,
+      reinserted-is start.args.s (tree start) start.requires.1.1 all.collect-count.ensures none.clear-m.ensures.1 new.ensures.1,
     )
 
 pub reinsert_spec : {M : Type 1} → statement M

@@ -84,12 +84,12 @@ loop-again c =
     let more = more done in
     let new = done.replace_slot-m in (
       omega arith,
-      new.auto.floats ∙ loop.inv.1,
-      new.auto.links ∙ loop.inv.2,
+      new.auto.floats ∙ loop.invariant.1,
+      new.auto.links ∙ loop.invariant.2,
       rw (sym new.auto.floats) at new.ensures.0.0,
       rw (sym new.auto.links) at new.ensures.0.1,
-      replace_on a.s a.scratch.now loop.left (tree turn) more loop.inv.5 new.ensures.1 (start turn).requires.0.0.sized,
-      replace_turn a.s a.scratch.now loop.left (tree turn) more loop.inv.5 new.ensures.1 ∙ loop.inv.6,
+      replace_on a.s a.scratch.now loop.left (tree turn) more loop.invariant.5 new.ensures.1 (start turn).requires.0.0.sized,
+      replace_turn a.s a.scratch.now loop.left (tree turn) more loop.invariant.5 new.ensures.1 ∙ loop.invariant.6,
     )
 
 same_length : tie.Need-shape_of-floats invariant-loop decreases-loop

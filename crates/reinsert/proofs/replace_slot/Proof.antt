@@ -67,7 +67,7 @@ returns c =
     let width = new.before.before.before.before in
     let a = (start width).args in
     let t = tree_of a.s a.n a.floats.now a.links.now in
-    (new.place_cf.ensures.floats_2, new.place_cf.ensures.links_after ∙ ap (λ e. replaced a.s e t) (summary width))
+    (new.place_cf.ensures.0, new.place_cf.ensures.1 ∙ ap (λ e. replaced a.s e t) (summary width))
 
 pub replace_slot_spec : {M : Type 1} → statement M
 replace_slot_spec =

@@ -18,7 +18,7 @@ abbrev tree : tie.Start → Tree
 tree c = tree_of c.args.s c.args.n c.args.floats.now c.args.links.now
 
 leaf : (c : tie.After-descend-leaf) → c.descend-leaf.result ≡ leaf_for (tree (start c)) (λ d. dist_to (start c).args.s d (start c).args.row.now)
-leaf c = c.descend-leaf.ensures.value ∙ ap (λ i. leaf_for (tree (start c)) i.near) (item_row (start c).args.s (start c).args.row.now)
+leaf c = c.descend-leaf.ensures.0 ∙ ap (λ i. leaf_for (tree (start c)) i.near) (item_row (start c).args.s (start c).args.row.now)
 
 descend-requires : tie.Need-descend-leaf-requires
 descend-requires c κs =
@@ -32,7 +32,7 @@ closest-entry-requires c κs =
     let start = start down in
     let a = start.args in
     let list = c.list.ensures a.floats.now in
-    let here = down.descend-leaf.ensures.upper_bound in (
+    let here = down.descend-leaf.ensures.1 in (
       start.requires.0.0,
       start.requires.0.2,
       leaf-some a.s a.n a.floats.now a.links.now a.row.now start.requires.1 _ (leaf down) here list,
@@ -45,7 +45,7 @@ returns c =
     let start = start down in
     let a = start.args in
     let near = c.closest_entry.ensures in (
-      route_is a.s a.n a.floats.now a.links.now a.row.now start.requires.1 _ (leaf down) down.descend-leaf.ensures.upper_bound
+      route_is a.s a.n a.floats.now a.links.now a.row.now start.requires.1 _ (leaf down) down.descend-leaf.ensures.1
           (c.list.ensures a.floats.now) (near.0 a.links.now),
       near.1,
     )

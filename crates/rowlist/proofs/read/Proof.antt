@@ -66,7 +66,7 @@ loop-again c =
       kept.1.1.1.1.0 ∙ inv.4,
       kept.1.1.1.1.1.0 ∙ inv.5,
       kept.1.1.1.1.1.1.0 ∙ inv.6,
-      feed.feed-run.ensures.reading_2,
+      feed.feed-run.ensures.0,
     )
 
 pub read_spec : {M : Type 1} → statement M
@@ -82,4 +82,4 @@ read_spec =
     (λ c. (got c).read-got.auto.buf ∙ (turn c).loop-chunks.invariant.1) (λ c. (fed c).feed-run.auto.line ∙ (turn c).loop-chunks.invariant.2)
     (λ c. (fed c).feed-run.auto.floats ∙ (turn c).loop-chunks.invariant.3) (λ c. (fed c).feed-run.auto.links ∙ (turn c).loop-chunks.invariant.4)
     (λ c. (fed c).feed-run.auto.scratch ∙ (turn c).loop-chunks.invariant.5) (λ c. (fed c).feed-run.auto.numbers ∙ (turn c).loop-chunks.invariant.6)
-    (λ c. (fed c).feed-run.ensures.reading_2))
+    (λ c. (fed c).feed-run.ensures.0))

@@ -46,7 +46,7 @@ append-requires c κs =
     let first = second.before.before.before.before in
     let gather = first.before.before in
     let s = start gather in (
-      (s.requires.0, rw (second.set_parent-2.auto.links, first.set_parent.auto.links) s.requires.1, s.requires.4, gather.gather-c.ensures.shaped),
+      (s.requires.0, rw (second.set_parent-2.auto.links, first.set_parent.auto.links) s.requires.1, s.requires.4, gather.gather-c.ensures.1),
       (tt, pair_room s.args.s s.requires.0.sized, omega arith),
     )
 
@@ -61,11 +61,11 @@ returns c =
     let fs = a.floats.now in
     let ls = a.links.now in
     let r = a.n.nodes in (
-      c.with_root.ensures ∙ ap (root_at r) append.append-r.ensures.value,
+      c.with_root.ensures ∙ ap (root_at r) append.append-r.ensures.0,
       ap (λ m. tree_of a.s m append.append-r.new.floats append.append-r.new.links) c.with_root.ensures
           ∙ tree-rooted a.s append.append-r.result r append.append-r.new.floats append.append-r.new.links
-          ∙ crown_is a.s a.i a.j r (tree_of a.s a.n fs ls) (count_nodes_lem a.s a.n fs ls) (gather.gather-c.ensures.any_links ls)
-          (first.set_parent.ensures fs) (second.set_parent-2.ensures fs) append.append-r.ensures.links_after,
+          ∙ crown_is a.s a.i a.j r (tree_of a.s a.n fs ls) (count_nodes_lem a.s a.n fs ls) (gather.gather-c.ensures.0 ls)
+          (first.set_parent.ensures fs) (second.set_parent-2.ensures fs) append.append-r.ensures.1,
     )
 
 pub crown_spec : {M : Type 1} → statement M

@@ -41,8 +41,8 @@ returns c =
     let h = grouped part in
     let a = (start (kind h)).args in
     let fs = a.floats.now in (
-      part.part-r.ensures.value,
-      part.part-r.ensures.links_after
+      part.part-r.ensures.0,
+      part.part-r.ensures.1
           ∙ split-leaf a.s a.i h.groups-h.result (tree_of a.s a.n fs a.links.now) h.groups-h.ensures
           (sym ((kind h).is_leaf-leaf.ensures fs) ∙ c.if-leaf.true),
     )
@@ -60,12 +60,12 @@ adopt-requires c κs =
     let two = halves h in
     let small = caps_small a.s a.n _ s.requires.0.0 in (
       (
-        links_more a.s a.n part.part-r.result part.part-r.ensures.value part.part-r.auto.links s.requires.0.1 s.requires.0.3,
+        links_more a.s a.n part.part-r.result part.part-r.ensures.0 part.part-r.auto.links s.requires.0.1 s.requires.0.3,
         omega (arith, two.two_long, two.twos-few),
         omega (arith, s.requires.0.3),
       ),
       moved_in a.s a.n (tree_of a.s a.n a.floats.now a.links.now) a.i two
-          (sym ((kind h).is_leaf-leaf.ensures a.floats.now) ∙ inner.if-leaf.false) part.part-r.ensures.value,
+          (sym ((kind h).is_leaf-leaf.ensures a.floats.now) ∙ inner.if-leaf.false) part.part-r.ensures.0,
     )
 
 returns-2 : tie.Need-returns
@@ -77,8 +77,8 @@ returns-2 c =
     let a = (start (kind h)).args in
     let fs = a.floats.now in
     let ls = a.links.now in (
-      part.part-r.ensures.value,
-      adopt.adopt.ensures part.part-r.new.floats ∙ ap (adopted_by a.n.nodes (twos h.groups-h.result)) part.part-r.ensures.links_after
+      part.part-r.ensures.0,
+      adopt.adopt.ensures part.part-r.new.floats ∙ ap (adopted_by a.n.nodes (twos h.groups-h.result)) part.part-r.ensures.1
           ∙ split-inner a.s a.i h.groups-h.result (tree_of a.s a.n fs ls) h.groups-h.ensures (count_nodes_lem a.s a.n fs ls)
           (sym ((kind h).is_leaf-leaf.ensures fs) ∙ inner.if-leaf.false),
     )

@@ -45,19 +45,19 @@ over c = sym (c.fits2.ensures (turn c).loop-left.floats) ∙ c.if-fits.false
 
 steps : (c : tie.After-parent-above invariant-loop decreases-loop)
     → Step (start (turn c)).args.s (turn c).loop-left.left (turn c).loop-left.m (turn c).loop-left.at (tree (turn c))
-steps c = let t = turn c in step (start t).args.s t.loop-left.left t.loop-left.m t.loop-left.at (tree t) t.loop-left.inv.4 (over c)
+steps c = let t = turn c in step (start t).args.s t.loop-left.left t.loop-left.m t.loop-left.at (tree t) t.loop-left.invariant.4 (over c)
 
 more-floats : (c : tie.After-split-m invariant-loop decreases-loop) {k : ℕ} → k ≡ length (turn (read c)).loop-left.floats
     → Floats (start (turn (read c))).args.s c.split-m.result k
 more-floats c q =
     let t = turn (read c) in
-    floats_more (start t).args.s t.loop-left.m c.split-m.result c.split-m.ensures.value q t.loop-left.inv.2 (steps (read c)).room
+    floats_more (start t).args.s t.loop-left.m c.split-m.result c.split-m.ensures.0 q t.loop-left.invariant.2 (steps (read c)).room
 
 more-links : (c : tie.After-split-m invariant-loop decreases-loop) {k : ℕ} → k ≡ length (turn (read c)).loop-left.links
     → Links (start (turn (read c))).args.s c.split-m.result k
 more-links c q =
     let t = turn (read c) in
-    links_more (start t).args.s t.loop-left.m c.split-m.result c.split-m.ensures.value q t.loop-left.inv.3 (steps (read c)).room
+    links_more (start t).args.s t.loop-left.m c.split-m.result c.split-m.ensures.0 q t.loop-left.invariant.3 (steps (read c)).room
 
 loop-holds : tie.Need-loop-left-init invariant-loop decreases-loop
 loop-holds c =
@@ -84,7 +84,7 @@ split-requires : tie.Need-split-m-requires invariant-loop decreases-loop
 split-requires c κs =
     let p = c.before.before in
     let loop = (turn p).loop-left in
-    ((loop.inv.2, loop.inv.3, loop.inv.4.here, (steps p).room), (steps p).splits)
+    ((loop.invariant.2, loop.invariant.3, loop.invariant.4.here, (steps p).room), (steps p).splits)
 
 crown-requires : tie.Need-crown-requires invariant-loop decreases-loop
 crown-requires c κs =
@@ -94,8 +94,8 @@ crown-requires c κs =
     let loop = (turn p).loop-left in
     let s = (start (turn p)).args.s in
     let r = split.split-m.result in
-    let e = split.split-m.ensures.value in
-    let here = loop.inv.4.here in (
+    let e = split.split-m.ensures.0 in
+    let here = loop.invariant.4.here in (
       more-floats split split.split-m.auto.floats,
       more-links split split.split-m.auto.links,
       below_more s loop.m r e (omega arith),
@@ -107,13 +107,13 @@ same-length-3 : tie.Need-shape_of-floats-in_default invariant-loop decreases-loo
 same-length-3 c =
     let crown = c.before.before.before.before in
     let split = crown.before.before.before.before.before.before.before.before.before in
-    crown.crown.auto.floats ∙ split.split-m.auto.floats ∙ (turn (read split)).loop-left.inv.0
+    crown.crown.auto.floats ∙ split.split-m.auto.floats ∙ (turn (read split)).loop-left.invariant.0
 
 same-length-4 : tie.Need-shape_of-links-in_default invariant-loop decreases-loop
 same-length-4 c =
     let crown = c.before.before.before.before in
     let split = crown.before.before.before.before.before.before.before.before.before in
-    crown.crown.auto.links ∙ split.split-m.auto.links ∙ (turn (read split)).loop-left.inv.1
+    crown.crown.auto.links ∙ split.split-m.auto.links ∙ (turn (read split)).loop-left.invariant.1
 
 returns-2 : tie.Need-returns-in_default invariant-loop decreases-loop
 returns-2 c =
@@ -125,18 +125,18 @@ returns-2 c =
     let loop = t.loop-left in
     let s = (start t).args.s in
     let r = split.split-m.result in
-    let e = split.split-m.ensures.value in
+    let e = split.split-m.ensures.0 in
     let orphan = parent_none p.parent-above.result (p.parent-above.ensures loop.floats) none.in_default.is in
     let room = room_more s loop.m r e ((steps p).top orphan) in (
       (
-        floats-crowned s r crown.crown.result crown.crown.ensures.value
-            (more-floats split (sym loop.inv.0)) room,
-        links_crowned s r crown.crown.result crown.crown.ensures.value
-            (more-links split (sym loop.inv.1)) room,
+        floats-crowned s r crown.crown.result crown.crown.ensures.0
+            (more-floats split (sym loop.invariant.0)) room,
+        links_crowned s r crown.crown.result crown.crown.ensures.0
+            (more-links split (sym loop.invariant.1)) room,
       ),
-      crown_up s loop.left loop.at (tree t) (count_nodes_lem s loop.m _ _) (more p) (over p) split.split-m.ensures.links_after orphan
-          crown.crown.ensures.links_after
-          ∙ loop.inv.5,
+      crown_up s loop.left loop.at (tree t) (count_nodes_lem s loop.m _ _) (more p) (over p) split.split-m.ensures.1 orphan
+          crown.crown.ensures.1
+          ∙ loop.invariant.5,
     )
 
 append-requires : tie.Need-append-requires invariant-loop decreases-loop
@@ -147,12 +147,12 @@ append-requires c κs =
     let loop = (turn p).loop-left in
     let s = (start (turn p)).args.s in
     let r = split.split-m.result in
-    let e = split.split-m.ensures.value in
+    let e = split.split-m.ensures.0 in
     let up = (steps p).up _ (parent_some p.parent-above.result (p.parent-above.ensures loop.floats) some.in-Node.is) in
-    let small = caps_small s loop.m _ loop.inv.2 in
+    let small = caps_small s loop.m _ loop.invariant.2 in
     let below = below_more s loop.m r e up.0 in (
       (more-links split split.split-m.auto.links, below, omega (arith, (steps p).room)),
-      spare_any s r split.split-m.new.floats split.split-m.new.links _ below split.split-m.ensures.links_after up.1,
+      spare_any s r split.split-m.new.floats split.split-m.new.links _ below split.split-m.ensures.1 up.1,
     )
 
 loop-again : tie.Need-loop-left-preserved invariant-loop decreases-loop
@@ -165,18 +165,18 @@ loop-again c =
     let loop = t.loop-left in
     let s = (start t).args.s in
     let r = split.split-m.result in
-    let e = split.split-m.ensures.value in
+    let e = split.split-m.ensures.0 in
     let above = parent_some p.parent-above.result (p.parent-above.ensures loop.floats) some.in-Node.is in
     let up = (steps p).up _ above in
     let listed = append.append.ensures split.split-m.new.floats in
     let links_kept = append.append.auto.links ∙ split.split-m.auto.links in
     let count = count_nodes_lem s loop.m loop.floats loop.links in (
-      split.split-m.auto.floats ∙ loop.inv.0,
-      links_kept ∙ loop.inv.1,
+      split.split-m.auto.floats ∙ loop.invariant.0,
+      links_kept ∙ loop.invariant.1,
       more-floats split split.split-m.auto.floats,
       more-links split links_kept,
-      rising_more s loop.m r e (next-is s loop.left loop.at (tree t) count (more p) (over p) split.split-m.ensures.links_after _ listed) up.2,
-      next_up_lem s loop.left loop.at (tree t) count (more p) (over p) split.split-m.ensures.links_after _ above listed ∙ loop.inv.5,
+      rising_more s loop.m r e (next-is s loop.left loop.at (tree t) count (more p) (over p) split.split-m.ensures.1 _ listed) up.2,
+      next_up_lem s loop.left loop.at (tree t) count (more p) (over p) split.split-m.ensures.1 _ above listed ∙ loop.invariant.5,
     )
 
 returns-3 : tie.Need-returns invariant-loop decreases-loop

@@ -13,11 +13,11 @@ walk-requires c κs =
 
 returns : tie.Need-returns-then-once_each
 unfolding walked_once
-returns c = λ fs. rw (← c.once_each_lem.ensures fs, c.if-once_each.true) (c.walk.ensures fs)
+returns c = λ fs. rw (← c.once_each.ensures fs, c.if-once_each.true) (c.walk.ensures fs)
 
 returns-2 : tie.Need-returns-else-once_each
 unfolding walked_once
-returns-2 c = λ fs. rw (← c.once_each_lem.ensures fs, c.if-once_each.false)
+returns-2 c = λ fs. rw (← c.once_each.ensures fs, c.if-once_each.false)
 
 pub walk_once_spec : {M : Type 1} → statement M
 walk_once_spec = tie.close (tie.spec once-each-requires walk-requires returns returns-2)

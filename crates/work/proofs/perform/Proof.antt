@@ -16,10 +16,10 @@ refit-requires c κs =
     (start.requires.0, (start.requires.1.0, refit_asks _ _ c.in-Refit.is start.requires.1.1))
 
 returns : tie.Need-returns-in-Insert
-returns c = (c.insert_all.ensures.floats_2, c.insert_all.ensures.links_after ∙ insert_does _ _ c.in-Insert.is _)
+returns c = (c.insert_all.ensures.0, c.insert_all.ensures.1 ∙ insert_does _ _ c.in-Insert.is _)
 
 returns-2 : tie.Need-returns-in-Refit
-returns-2 c = (c.refit.ensures.floats_2, c.refit.ensures.links_after ∙ refit_does _ _ c.in-Refit.is _)
+returns-2 c = (c.refit.ensures.0, c.refit.ensures.1 ∙ refit_does _ _ c.in-Refit.is _)
 
 pub perform_spec : {M : Type 1} → statement M
 perform_spec = tie.close (tie.spec (λ c. search rules) insert-all-requires (λ c. search rules) refit-requires (λ c. search rules) (λ c. search rules) (λ c. search rules) (λ c. search rules) returns (λ c. search rules) (λ c. search rules) (λ c. search rules) (λ c. search rules) returns-2)

@@ -18,7 +18,7 @@ use Rattle.descent.proofs.path.feed_path.Tie as tie
 abbrev invariant-loop : tie.invariant-loop-left
 invariant-loop s n floats₀ links leaf form x i₀ left₀ floats i left =
     (i < n.nodes) × (length floats ≡ length floats₀)
-    × (climbed_from (item_of s form x).true left (some i) (tree_of s n floats links) ≡ along_path (item_of s form x).true leaf (tree_of s n floats₀ links))
+    × (climbed_from (item_of s form x).taken left (some i) (tree_of s n floats links) ≡ along_path (item_of s form x).taken leaf (tree_of s n floats₀ links))
 
 abbrev decreases-loop : tie.decreases-loop-left
 decreases-loop s n floats₀ links leaf form x i₀ left₀ floats i left = left
@@ -42,14 +42,14 @@ parent-requires : tie.Need-parent-requires invariant-loop decreases-loop
 parent-requires c κs = let at = c.before.before.before.before.before in ((start at).requires.0.1, at.loop-left.invariant.0)
 
 same_length : tie.Need-shape_of-floats-in_default invariant-loop decreases-loop
-same_length c = c.feed.auto.floats ∙ (turn c.before.before).loop-left.inv.1
+same_length c = c.feed.auto.floats ∙ (turn c.before.before).loop-left.invariant.1
 
 returns : tie.Need-returns-in_default invariant-loop decreases-loop
 returns c =
     let loop = (turn c.before.before).loop-left in
     let top = sym (no_parent_lem _ c.in_default.is) ∙ c.parent.ensures loop.floats in
     let fed = c.feed.ensures _ in
-    sym (up_top _ (loop.left - 1) _) ∙ up_on _ loop.left loop.i _ _ none (omega arith) fed top ∙ loop.inv.2
+    sym (up_top _ (loop.left - 1) _) ∙ up_on _ loop.left loop.i _ _ none (omega arith) fed top ∙ loop.invariant.2
 
 loop-again : tie.Need-loop-left-preserved invariant-loop decreases-loop
 loop-again c =
@@ -58,10 +58,10 @@ loop-again c =
     let old = start (turn parent) in
     let feed = parent.feed in
     let up = sym (a_parent _ _ c.in-Node.is) in (
-      parent_there _ _ _ _ old.requires.1.0 loop.i loop.inv.0 _
+      parent_there _ _ _ _ old.requires.1.0 loop.i loop.invariant.0 _
           (sym (parent.parent.ensures old.args.floats.now) ∙ sym up),
-      feed.auto.floats ∙ loop.inv.1,
-      up_on _ loop.left loop.i _ _ _ (omega arith) (feed.ensures _) (up ∙ parent.parent.ensures loop.floats) ∙ loop.inv.2,
+      feed.auto.floats ∙ loop.invariant.1,
+      up_on _ loop.left loop.i _ _ _ (omega arith) (feed.ensures _) (up ∙ parent.parent.ensures loop.floats) ∙ loop.invariant.2,
     )
 
 returns-2 : tie.Need-returns invariant-loop decreases-loop

@@ -35,7 +35,7 @@ returns c =
     let tidy = c.tidy in
     let a = (start made).args in
     let empty = new-cleared a.s (start made).requires.0 made.new-n.result a.threshold made.new-n.ensures a.floats.now a.links.now in
-    subst (λ t. TreeLeft a.s t clear.clear-m.result tidy.new.floats tidy.new.links) (clear.clear-m.ensures.links_after ∙ empty) tidy.ensures
+    subst (λ t. TreeLeft a.s t clear.clear-m.result tidy.new.floats tidy.new.links) (clear.clear-m.ensures.1 ∙ empty) tidy.ensures
 
 pub empty_spec : {M : Type 1} → statement M
 empty_spec = tie.close (tie.spec (λ c κs. search rules) clear-requires tidy-requires (λ c. search rules) (λ c. search rules) returns)

@@ -36,9 +36,9 @@ loop-again c =
     let loop = c.loop-k in
     let a = c.args in (
       omega arith,
-      c.wider-w.ensures.within,
+      c.wider-w.ensures.1,
       λ ls. from_turn a.s (child (tree_of a.s a.n a.floats.now ls) a.leaf) a.list.now loop.k (seeds_of loop.w)
-          c.loop-k-test.true (c.wider-w.ensures.any_links ls) ∙ loop.invariant.2 ls,
+          c.loop-k-test.true (c.wider-w.ensures.0 ls) ∙ loop.invariant.2 ls,
     )
 
 returns : tie.Need-returns invariant-loop decreases-loop

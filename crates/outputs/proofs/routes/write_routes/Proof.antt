@@ -39,7 +39,7 @@ route-requires c κs =
     ((start.requires.0.0, start.requires.0.1, rw c.row.ensures (omega arith)), start.requires.1 (let more = c.loop-k-test.true in omega arith))
 
 cast-out : tie.Need-overflow_cast-out invariant-loop decreases-loop
-cast-out c = let few = c.requires.0.0.entries_in in let small = (caps_small _ _ _ c.requires.0.0).1 in let in-it = c.route.ensures.upper_bound in omega arith
+cast-out c = let few = c.requires.0.0.entries_in in let small = (caps_small _ _ _ c.requires.0.0).1 in let in-it = c.route.ensures.1 in omega arith
 
 mul-out : tie.Need-offset_bounds-out-k invariant-loop decreases-loop
 mul-out c = let few = c.requires.0.3 in let more = c.loop-k-test.true in omega arith
@@ -58,7 +58,7 @@ loop-again c =
     let new = map told (rows_of a.count a.s.dim a.rows.now) in
     let many = told_count a.s told a.count a.rows.now in
     let here : c.route.result ≡ get_or new loop.k 0 =
-    c.route.ensures.value ∙ ap told c.row.ensures ∙ sym (told_at a.s told a.count loop.k a.rows.now more) in (
+    c.route.ensures.0 ∙ ap told c.row.ensures ∙ sym (told_at a.s told a.count loop.k a.rows.now more) in (
       omega arith,
       length-set loop.out loop.k c.route.result ∙ loop.invariant.1,
       ap₂ (λ l v. set l loop.k v) loop.invariant.2 here ∙ copied_turn new a.out.now loop.k 0 (omega arith) (omega arith),

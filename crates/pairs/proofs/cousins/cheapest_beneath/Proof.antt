@@ -58,10 +58,10 @@ loop-again c =
     let f = cost_of s t i in
     let rest = beneath t (drop (l.k + 1) leaves) in (
       omega (arith, c.loop-k-test.true),
-      c.cheapest-best.ensures.inside,
+      c.cheapest-best.ensures.1,
       ap (λ b. partner f i b rest)
-          (c.cheapest-best.ensures.any_links start.args.links.now ∙ ap (partner f i (partner_of l.best)) (c.list-list.ensures start.args.floats.now))
-          ∙ sym (partner-append f i (partner_of l.best) (node_at t (get_or leaves l.k 0)).list-list rest)
+          (c.cheapest-best.ensures.0 start.args.links.now ∙ ap (partner f i (partner_of l.best)) (c.list-list.ensures start.args.floats.now))
+          ∙ sym (partner-append f i (partner_of l.best) (node_at t (get_or leaves l.k 0)).list rest)
           ∙ ap (partner f i (partner_of l.best)) (sym (beneath_turn t leaves l.k c.loop-k-test.true))
           ∙ l.invariant.2,
     )

@@ -29,7 +29,7 @@ is-inner c =
     sym (c.is_leaf.ensures start.args.floats.now) ∙ c.if-is_leaf.false
 
 own-list : (c : tie.After-list-list) → c.list-list.result.now ≡ (node_at (tree c.before.before.before.before.before.before.before)
-    c.args.i).list-list
+    c.args.i).list
 own-list c =
     let start = c.before.before.before.before.before.before.before in
     c.list-list.ensures start.args.floats.now
@@ -44,10 +44,10 @@ children c =
 -- all nodes of its list are leaves
 all_leaves_lem : (c : tie.After-all_leaves) → c.all_leaves.result ≡ true → all_leaves (tree c.before.before.before.before.before.before.before.before)
     (node_at (tree c.before.before.before.before.before.before.before.before)
-    c.args.i).list-list ≡ true
+    c.args.i).list ≡ true
 all_leaves_lem c e =
     let start = c.before.before.before.before.before.before.before.before in
-    ap (all_leaves (tree start)) (sym (own-list c.before)) ∙ sym (c.all_leaves_lem.ensures start.args.floats.now) ∙ e
+    ap (all_leaves (tree start)) (sym (own-list c.before)) ∙ sym (c.all_leaves.ensures start.args.floats.now) ∙ e
 
 returns : tie.Need-returns-then-is_leaf
 returns c =
@@ -101,7 +101,7 @@ returns-3 c =
     let start = c.before.before.before.before.before.before.before.before.before in (
       cousins-none start.args.s (tree start) start.args.i _
           (not-all (node_at (tree start) start.args.i).leaf _
-          (ap (all_leaves (tree start)) (sym (own-list c.before.before)) ∙ sym (c.all_leaves_lem.ensures start.args.floats.now) ∙
+          (ap (all_leaves (tree start)) (sym (own-list c.before.before)) ∙ sym (c.all_leaves.ensures start.args.floats.now) ∙
           c.if-all_leaves.false)),
       omega arith,
     )

@@ -51,7 +51,7 @@ push-requires c κs =
       among loop.m start.requires.1.1 inv.2 inv.3 (omega (arith, inv.0, more.true)),
       omega (arith, c.shared_slice_known-in-loop-k-1.given loop.k),
       inside_more start.args.n.entries 4294967296 (partner_of c.cheapest_beneath-p.result)
-          c.cheapest_beneath-p.ensures.inside
+          c.cheapest_beneath-p.ensures.1
           (entries_few start.args.s start.args.n _ start.requires.0.0),
     )
 

@@ -49,7 +49,7 @@ left c =
     let leaves = start.args.leaves.now in
     let k = c.loop-k.k in
     ap (λ l. length l + length (beneath t (drop (k + 1) leaves))) (c.list-list.ensures start.args.floats.now)
-    ∙ sym (length-append (node_at t (get_or leaves k 0)).list-list (beneath t (drop (k + 1) leaves)))
+    ∙ sym (length-append (node_at t (get_or leaves k 0)).list (beneath t (drop (k + 1) leaves)))
     ∙ ap length (sym (beneath_turn t leaves k c.loop-k-test.true))
 
 loop-holds : tie.Need-loop-k-init invariant-loop decreases-loop
@@ -72,7 +72,7 @@ push-leaf-requires c κs =
     let more = left c.before.before in (
       start.requires.0,
       (
-        subst (ChildrenIn start.args.n true) (sym (c.list-list.ensures start.args.floats.now))
+        subst (ChildrenIn start.args.n true) (sym (c.list.ensures start.args.floats.now))
             (start.requires.0.2.entries loop.k more'.true),
         record {
           floats_in_lem = omega (arith, inv.0, inv.2, start.requires.1.floats_in_lem);

@@ -29,7 +29,7 @@ put-requires c κs =
 returns-2 : tie.Need-returns
 returns-2 c =
     let start = c.before.before.before.before.before.before.before.before.before.before in
-    let told = c.p in
+    let told = c.before.before.before.before.put.new.p in
     let put = c.put in (
       pair-pushed start.args.count start.args.i _ _ (partner_of start.args.p) (partner_named start.args.p _ _ told.given.1) put.ensures,
       omega arith,

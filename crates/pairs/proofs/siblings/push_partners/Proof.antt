@@ -43,7 +43,7 @@ push-requires c κs =
     let inv = loop.invariant in (
       among loop.m start.requires.2 inv.2 inv.3 (omega (arith, inv.0, more.true)),
       omega (arith, c.shared_slice_known-in-loop-k-1.given loop.k),
-      inside_more start.args.n.entries 4294967296 (partner_of c.cheapest-p.result) c.cheapest-p.ensures.inside
+      inside_more start.args.n.entries 4294967296 (partner_of c.cheapest-p.result) c.cheapest-p.ensures.1
           (entries_few start.args.s start.args.n _ start.requires.0),
     )
 

@@ -29,7 +29,7 @@ is_leaf c =
     sym (c.is_leaf.ensures start.args.floats.now) ∙ c.if-is_leaf.true
 
 own-list : (c : tie.After-list-list) → c.list-list.result.now ≡ (node_at (tree c.before.before.before.before.before.before.before)
-    c.args.i).list-list
+    c.args.i).list
 own-list c =
     let start = c.before.before.before.before.before.before.before in
     c.list-list.ensures start.args.floats.now

@@ -49,8 +49,8 @@ returns-2 c =
     let anew = test.before.before.before.before.before.before.before in
     let start = start anew in
     let a = start.args in (
-      (rw anew.reaccumulate.auto.floats at drop.drop_unused.ensures.floats_2.0, drop.drop_unused.ensures.floats_2.1),
-      round_some a.s _ a.done (tree start) anew.reaccumulate.ensures test.if-reaccumulate.false drop.drop_unused.ensures.last_after,
+      (rw anew.reaccumulate.auto.floats at drop.drop_unused.ensures.0.0, drop.drop_unused.ensures.0.1),
+      round_some a.s _ a.done (tree start) anew.reaccumulate.ensures test.if-reaccumulate.false drop.drop_unused.ensures.1,
     )
 
 pub round_spec : {M : Type 1} → statement M

@@ -41,14 +41,14 @@ calls t = (
 )
 
 -- the list has halves
-halves : (t : ℕ) (c : fold-balanced-lts.Else1 (calls t) (fold-balanced-at t) fold-balanced.Post) → Halved
+halves : (t : ℕ) (c : fold-balanced-lts.Else-len-eq1 (calls t) (fold-balanced-at t) fold-balanced.Post) → Halved
     (length c.args.list.now)
 halves t c =
     let start = c.before.before.before.before in
-    halved (length start.args.list.now) start.requires.1.0.2 c.if1.false
+    halved (length start.args.list.now) start.requires.1.0.2 c.if-len-eq1.false
 
 -- the slot behind the front half's is a number of its word
-place-fits : (t : ℕ) (c : fold-balanced-lts.After-slice-known (calls t) (fold-balanced-at t) fold-balanced.Post)
+place-fits : (t : ℕ) (c : fold-balanced-lts.After-slice_known-1 (calls t) (fold-balanced-at t) fold-balanced.Post)
     → Fits w64 (c.args.at + length c.args.list.now / 2)
 place-fits t c =
     let few : c.args.at + length c.args.list.now ≤ length
@@ -57,13 +57,13 @@ place-fits t c =
     c.args.scratch.now = omega arith in
     search rules
 
-shared-slice-read-copy : (t : ℕ) → fold-balanced-lts.Need-shared-slice-read-copy (calls t) (fold-balanced-at t) fold-balanced.Post
+shared-slice-read-copy : (t : ℕ) → fold-balanced-lts.Need-bounds-list-0 (calls t) (fold-balanced-at t) fold-balanced.Post
 shared-slice-read-copy t c =
     let start = c.before.before.before.before.before in
     start.requires.1.0.2
 
-cast-copy : (t : ℕ) → fold-balanced-lts.Need-overflow-cast-copy (calls t) (fold-balanced-at t) fold-balanced.Post
-cast-copy t c = omega (arith, c.shared-slice-known3.given 0)
+cast-copy : (t : ℕ) → fold-balanced-lts.Need-overflow_cast-list (calls t) (fold-balanced-at t) fold-balanced.Post
+cast-copy t c = omega (arith, c.shared_slice_known-then-len-eq1-1.given 0)
 
 copy-requires : (t : ℕ) → fold-balanced-lts.Need-copy-requires (calls t) (fold-balanced-at t) fold-balanced.Post
 copy-requires t c κs =
@@ -74,26 +74,26 @@ copy-requires t c κs =
           (omega (arith, start.requires.1.0.2)) start.requires.1.1,
     )
 
-same_length : (t : ℕ) → fold-balanced-lts.Need-same-length (calls t) (fold-balanced-at t) fold-balanced.Post
-same_length t c = c.copy.auto.1.1.1.1.1.0
+same_length : (t : ℕ) → fold-balanced-lts.Need-shape_of-scratch-then-len-eq1 (calls t) (fold-balanced-at t) fold-balanced.Post
+same_length t c = c.copy.auto.scratch
 
-returns : (t : ℕ) → fold-balanced-lts.Need-returns (calls t) (fold-balanced-at t) fold-balanced.Post
+returns : (t : ℕ) → fold-balanced-lts.Need-returns-then-len-eq1 (calls t) (fold-balanced-at t) fold-balanced.Post
 returns t c =
     let start = c.before.before.before.before.before.before.before.before.before in
-    let test = c.if1 in
+    let test = c.if-len-eq1 in
     λ ls.
     folded_as (fold-one start.args.s (child (tree_of start.args.s start.args.n start.args.floats.now ls) start.args.leaf)
     start.args.list.now
     test.true) (c.copy.ensures ls)
 
-slice-aggregate-fold-balanced : (t : ℕ) → fold-balanced-lts.Need-slice-aggregate-fold-balanced (calls t) (fold-balanced-at t) fold-balanced.Post
+slice-aggregate-fold-balanced : (t : ℕ) → fold-balanced-lts.Need-slice_bounds-fold_balanced-end (calls t) (fold-balanced-at t) fold-balanced.Post
 slice-aggregate-fold-balanced t c =
-    let start = c.before.before.before.before.before in
+    let start = c.before.before.before.before in
     sym (length-take-le (length start.args.list.now / 2) start.args.list.now (omega (arith, (halves t (c.before)).fewer)))
 
-fold-balanced-requires : (t : ℕ) → fold-balanced-lts.Need-fold-balanced-requires (calls t) (fold-balanced-at t) fold-balanced.Post
+fold-balanced-requires : (t : ℕ) → fold-balanced-lts.Need-fold_balanced-requires (calls t) (fold-balanced-at t) fold-balanced.Post
 fold-balanced-requires t c κs =
-    let start = c.before.before.before.before.before.before in
+    let start = c.before.before.before.before.before in
     let list = start.args.list.now in
     let h = length list / 2 in
     let two = halves t (c.before.before) in
@@ -106,40 +106,40 @@ fold-balanced-requires t c κs =
       ),
     )
 
-mul-fold-balanced : (t : ℕ) → fold-balanced-lts.Need-overflow-mul-fold-balanced (calls t) (fold-balanced-at t) fold-balanced.Post
+mul-fold-balanced : (t : ℕ) → fold-balanced-lts.Need-offset_bounds-list-h (calls t) (fold-balanced-at t) fold-balanced.Post
 mul-fold-balanced t c =
-    let start = c.before.before.before.before.before.before.before.before.before in
+    let start = c.before.before.before.before.before.before.before.before in
     let h : length start.args.list.now / 2 < length start.args.list.now = (halves t (c.before.before.before.before.before)).fewer in search
     rules
 
-sub-fold-balanced : (t : ℕ) → fold-balanced-lts.Need-overflow-sub-fold-balanced (calls t) (fold-balanced-at t) fold-balanced.Post
+sub-fold-balanced : (t : ℕ) → fold-balanced-lts.Need-slice_bounds-fold_balanced-count (calls t) (fold-balanced-at t) fold-balanced.Post
 sub-fold-balanced t c = omega (arith, (halves t (c.before.before.before.before.before)).fewer)
 
-part-fold-balanced-start : (t : ℕ) → fold-balanced-lts.Need-slice-bounds-fold-balanced-start (calls t) (fold-balanced-at t) fold-balanced.Post
+part-fold-balanced-start : (t : ℕ) → fold-balanced-lts.Need-slice_bounds-fold_balanced-start (calls t) (fold-balanced-at t) fold-balanced.Post
 part-fold-balanced-start t c =
-    let start = c.before.before.before.before.before.before.before.before.before in
+    let start = c.before.before.before.before.before.before.before.before in
     let h : length start.args.list.now / 2 < length start.args.list.now = (halves t (c.before.before.before.before.before)).fewer in search
     rules
 
-part-fold-balanced-end : (t : ℕ) → fold-balanced-lts.Need-slice-bounds-fold-balanced-end (calls t) (fold-balanced-at t) fold-balanced.Post
+part-fold-balanced-end : (t : ℕ) → fold-balanced-lts.Need-slice_bounds-fold_balanced-end-2 (calls t) (fold-balanced-at t) fold-balanced.Post
 part-fold-balanced-end t c =
-    let start = c.before.before.before.before.before.before.before.before.before in
+    let start = c.before.before.before.before.before.before.before.before in
     let h : length start.args.list.now / 2 < length start.args.list.now = (halves t (c.before.before.before.before.before)).fewer in search
     rules
 
-add-fold-balanced : (t : ℕ) → fold-balanced-lts.Need-overflow-add-fold-balanced (calls t) (fold-balanced-at t) fold-balanced.Post
+add-fold-balanced : (t : ℕ) → fold-balanced-lts.Need-overflow_add-at (calls t) (fold-balanced-at t) fold-balanced.Post
 add-fold-balanced t c = place-fits t (c.before.before.before.before.before.before.before.before)
 
-fold-balanced-requires-2 : (t : ℕ) → fold-balanced-lts.Need-fold-balanced-requires-2 (calls t) (fold-balanced-at t) fold-balanced.Post
+fold-balanced-requires-2 : (t : ℕ) → fold-balanced-lts.Need-fold_balanced-requires-2 (calls t) (fold-balanced-at t) fold-balanced.Post
 fold-balanced-requires-2 t c κs =
-    let start = c.before.before.before.before.before.before.before.before.before.before.before in
-    let fold-balanced = c.fold-balanced in
+    let start = c.before.before.before.before.before.before.before.before.before.before in
+    let fold-balanced = c.fold_balanced in
     let list = start.args.list.now in
     let h = length list / 2 in
     let two = halves t (c.before.before.before.before.before.before.before) in
     let back : take (length list - h) (drop h list) ≡ drop h list = take_all (length list - h) (drop h list) (simp length-drop (omega arith)) in
     let long : length (take (length list - h) (drop h list)) ≡ length list - h = ap length back ∙ length-drop h list in
-    let kept : length fold-balanced.new.1.1.1.1.1.0 ≡ length start.args.scratch.now = fold-balanced.auto.1.1.1.1.1.0 in (
+    let kept : length fold-balanced.new.scratch ≡ length start.args.scratch.now = fold-balanced.auto.scratch in (
       omega (arith, start.requires.0, two.some, two.fewer),
       (
         (
@@ -152,17 +152,17 @@ fold-balanced-requires-2 t c κs =
       ),
     )
 
-add-join : (t : ℕ) → fold-balanced-lts.Need-overflow-add-join (calls t) (fold-balanced-at t) fold-balanced.Post
+add-join : (t : ℕ) → fold-balanced-lts.Need-overflow_add-at-2 (calls t) (fold-balanced-at t) fold-balanced.Post
 add-join t c = place-fits t (c.before.before.before.before.before.before.before.before.before.before.before.before)
 
 join-requires : (t : ℕ) → fold-balanced-lts.Need-join-requires (calls t) (fold-balanced-at t) fold-balanced.Post
 join-requires t c κs =
     let start = c.before.before.before.before.before.before.before.before.before.before.before.before.before.before in
-    let fold-balanced = c.fold-balanced in
+    let fold-balanced = c.fold_balanced in
     let list = start.args.list.now in
     let two = halves t (c.before.before.before.before.before.before.before.before.before.before.before) in
-    let long : length c.fold-balanced2.new.1.1.1.1.1.0 ≡ length start.args.scratch.now =
-    c.fold-balanced2.auto.1.1.1.1.1.0 ∙ fold-balanced.auto.1.1.1.1.1.0 in (
+    let long : length c.fold_balanced-2.new.scratch ≡ length start.args.scratch.now =
+    c.fold_balanced-2.auto.scratch ∙ fold-balanced.auto.scratch in (
       slot_there start.args.s start.requires.1.0.0.sized start.args.at (length list) start.args.at _ (omega (arith, two.fewer))
           (rw long start.requires.1.1),
       slot_there start.args.s start.requires.1.0.0.sized start.args.at (length list) (start.args.at + length list / 2) _
@@ -170,18 +170,18 @@ join-requires t c κs =
           (rw long start.requires.1.1),
     )
 
-same-length-2 : (t : ℕ) → fold-balanced-lts.Need-same-length-2 (calls t) (fold-balanced-at t) fold-balanced.Post
+same-length-2 : (t : ℕ) → fold-balanced-lts.Need-shape_of-scratch (calls t) (fold-balanced-at t) fold-balanced.Post
 same-length-2 t c =
-    let fold-balanced = c.fold-balanced in
-    let fold-balanced2 = c.fold-balanced2 in
-    c.join.auto.1.0 ∙ fold-balanced2.auto.1.1.1.1.1.0 ∙ fold-balanced.auto.1.1.1.1.1.0
+    let fold-balanced = c.fold_balanced in
+    let fold-balanced2 = c.fold_balanced-2 in
+    c.join.auto.scratch ∙ fold-balanced2.auto.scratch ∙ fold-balanced.auto.scratch
 
-returns-2 : (t : ℕ) → fold-balanced-lts.Need-returns-2 (calls t) (fold-balanced-at t) fold-balanced.Post
+returns-2 : (t : ℕ) → fold-balanced-lts.Need-returns (calls t) (fold-balanced-at t) fold-balanced.Post
 returns-2 t c =
-    let start = c.before.before.before.before.before.before.before.before.before.before.before.before.before.before.before.before.before.before in
-    let test = c.if1 in
-    let fold-balanced = c.fold-balanced in
-    let fold-balanced2 = c.fold-balanced2 in
+    let start = c.before.before.before.before.before.before.before.before.before.before.before.before.before.before.before.before.before in
+    let test = c.if-len-eq1 in
+    let fold-balanced = c.fold_balanced in
+    let fold-balanced2 = c.fold_balanced-2 in
     λ ls.
     let list = start.args.list.now in
     let h = length list / 2 in
@@ -193,8 +193,8 @@ returns-2 t c =
     (halves_folded (halves t (c.before.before.before.before.before.before.before.before.before.before.before.before.before.before)).some
     (fold-balanced.ensures ls) (fold-balanced2.ensures ls) c.join.ensures)
 
-pub +fold-balanced-spec : {M : Type 1} → statement M
-+fold-balanced-spec = close μ-fold-balanced
+pub +fold_balanced_spec : {M : Type 1} → statement M
++fold_balanced_spec = close μ-fold-balanced
     (λ t. fold-balanced-lts.spec (calls t) (fold-balanced-at t) fold-balanced.Post (shared-slice-read-copy t) (cast-copy t) (copy-requires t) (same_length t)
     (returns t) (slice-aggregate-fold-balanced t) (fold-balanced-requires t) (mul-fold-balanced t) (sub-fold-balanced t) (part-fold-balanced-start t)
     (part-fold-balanced-end t) (add-fold-balanced t) (fold-balanced-requires-2 t) (add-join t) (join-requires t) (same-length-2 t) (returns-2 t))

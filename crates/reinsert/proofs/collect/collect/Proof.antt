@@ -76,7 +76,7 @@ more : (c : tie.After-is_leaf invariant-loop decreases-loop) → 0 < (turn c).lo
 more c = c.loop-left-test.true
 
 -- the list and the kind that were read are the node's
-list : (c : tie.After-is_leaf invariant-loop decreases-loop) → c.list-list.result.now ≡ (node_at (tree (start (turn c))) (top (turn c))).list-list
+list : (c : tie.After-is_leaf invariant-loop decreases-loop) → c.list-list.result.now ≡ (node_at (tree (start (turn c))) (top (turn c))).list
 list c = c.list-list.ensures (start (turn c)).args.floats.now
 
 kind : (c : tie.After-is_leaf invariant-loop decreases-loop) {b : Bool} → c.is_leaf.result ≡ b → (node_at (tree (start (turn c))) (top (turn c))).leaf ≡ b
@@ -158,7 +158,7 @@ copy-entries-requires c κs =
       ),
       (
         omega (arith, room, length_slots a.s at.loop-left.scratch at.loop-left.count, ap length (list read)),
-        rw at.loop-left.inv.0 start.requires.1.0,
+        rw at.loop-left.invariant.0 start.requires.1.0,
       ),
     )
 
@@ -187,15 +187,15 @@ loop-again c =
     -- in either branch w .2 is the call, and w.5 to w.8 say what scratch, stack, high and count have become
     elim c.if-is_leaf.branch [
       | then-is_leaf w ↦ (
-        ap length w.scratch-is ∙ w.copy_entries-count.kept.1.1.1.1.0 ∙ at.loop-left.inv.0,
-        ap length w.stack-is ∙ at.loop-left.inv.1,
+        ap length w.scratch-is ∙ w.copy_entries-count.auto.1.1.1.1.0 ∙ at.loop-left.invariant.0,
+        ap length w.stack-is ∙ at.loop-left.invariant.1,
         collect_leaf a.s t at.loop-left.left (done at) (top at) (others at) (opened at (some read)) (more read) (kind read w.if-is_leaf.true)
             (ap₂ (slots_in a.s) w.scratch-is w.count-is ∙ w.copy_entries-count.ensures.1 a.links.now ∙ ap (λ l. done at ++ map (entry_at t) l) (list read))
-            (ap₂ waiting w.6 w.7),
+            (ap₂ waiting w.stack-is w.high-is),
       )
       | else-is_leaf w ↦ (
-        ap length w.5 ∙ at.loop-left.inv.0,
-        ap length w.6 ∙ w.2.kept.1.0 ∙ at.loop-left.inv.1,
+        ap length w.5 ∙ at.loop-left.invariant.0,
+        ap length w.6 ∙ w.2.auto.1.0 ∙ at.loop-left.invariant.1,
         collect_inner a.s t at.loop-left.left (done at) (top at) (others at) (opened at (some read)) (more read) (kind read w.if-is_leaf.false)
             (ap₂ (slots_in a.s) w.5 w.8) (ap₂ waiting w.6 w.7 ∙ w.2.ensures ∙ ap (λ l. l ++ others at) (list read)),
       )

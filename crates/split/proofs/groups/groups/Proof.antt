@@ -20,7 +20,7 @@ halves-of-requires c κs =
     let list = c.list-list.ensures fs in (
       start.requires.0.0,
       rw (c.is_leaf-leaf.ensures fs, list) start.requires.1.inside,
-      c.seeds_of-w.ensures.within,
+      c.seeds_of-w.ensures.1,
       rw list (splits_few a.s a.n (tree_of a.s a.n fs a.links.now) a.i start.requires.0.0.sized start.requires.1),
     )
 
@@ -30,7 +30,7 @@ returns c =
     let fs = a.floats.now in
     let ls = a.links.now in
     groups_are a.s a.n (tree_of a.s a.n fs ls) a.i c.seeds_of-w.result (c.is_leaf-leaf.ensures fs)
-    (c.list-list.ensures fs) (c.seeds_of-w.ensures.any_links ls) (c.halves_of.ensures ls)
+    (c.list-list.ensures fs) (c.seeds_of-w.ensures.0 ls) (c.halves_of.ensures ls)
 
 pub groups_spec : {M : Type 1} → statement M
 groups_spec = tie.close (tie.spec (λ c κs. search rules) (λ c κs. search rules) seeds-of-requires halves-of-requires returns)

@@ -28,17 +28,17 @@ start c = c.before.before.before
 slice-aggregate-gather : tie.Need-slice_bounds-gather-end
 slice-aggregate-gather c =
     let s = start (kind c.before.before.before) in
-    sym (length-take-le s.args.h.ones s.args.h.one-1 (omega (arith, s.requires.1.ones-few, s.requires.1.one_long)))
+    sym (length-take-le s.args.h.ones s.args.h.one (omega (arith, s.requires.1.ones-few, s.requires.1.one_long)))
 
 gather-requires : tie.Need-gather-a-requires
 gather-requires c κs =
     let k = kind c.before.before.before in
-    ((start k).requires.0.0, rw (k.is_leaf-leaf.ensures (start k).args.floats.now) (start k).requires.1.ones_in_lem)
+    ((start k).requires.0.0, rw (k.is_leaf-leaf.ensures (start k).args.floats.now) (start k).requires.1.ones_in)
 
 slice-aggregate-gather-2 : tie.Need-slice_bounds-gather-end-2
 slice-aggregate-gather-2 c =
     let s = start (kind (read c.before)) in
-    sym (length-take-le s.args.h.twos s.args.h.two-1 (omega (arith, s.requires.1.twos-few, s.requires.1.two_long)))
+    sym (length-take-le s.args.h.twos s.args.h.two (omega (arith, s.requires.1.twos-few, s.requires.1.two_long)))
 
 gather-requires-2 : tie.Need-gather-b-requires
 gather-requires-2 c κs =
@@ -52,7 +52,7 @@ refill-requires : tie.Need-refill-requires
 refill-requires c κs =
     let gather = first c.before.before.before in
     let p = (start (kind (read gather))).requires in
-    ((p.0.0, p.0.1, p.0.2, gather.gather-a.ensures.shaped), (p.1.ones_room, omega (arith, p.1.ones-few, p.1.one_long)))
+    ((p.0.0, p.0.1, p.0.2, gather.gather-a.ensures.1), (p.1.ones_room, omega (arith, p.1.ones-few, p.1.one_long)))
 
 slice-aggregate-append : tie.Need-slice_bounds-append-end
 slice-aggregate-append c =
@@ -65,7 +65,7 @@ append-requires c κs =
     let parent = read (first gather2) in
     let s = start (kind parent) in
     let p = s.requires in (
-      (rw refill.refill.auto.floats p.0.0, rw refill.refill.auto.links p.0.1, p.0.3, gather2.gather-b.ensures.shaped),
+      (rw refill.refill.auto.floats p.0.0, rw refill.refill.auto.links p.0.1, p.0.3, gather2.gather-b.ensures.1),
       (
         parent_fits parent.parent-parent.result (parent.parent-parent.ensures s.args.floats.now) p.1.parent_fits,
         p.1.twos_room,
@@ -83,9 +83,9 @@ returns c =
     let a = (start (kind parent)).args in
     let fs = a.floats.now in
     let ls = a.links.now in (
-      append.append.ensures.value,
+      append.append.ensures.0,
       halves_are a.s a.i a.h (tree_of a.s a.n fs ls) ((kind parent).is_leaf-leaf.ensures fs) (parent.parent-parent.ensures fs)
-          (gather.gather-a.ensures.any_links ls) (gather2.gather-b.ensures.any_links ls) refill.refill.ensures append.append.ensures.links_after,
+          (gather.gather-a.ensures.0 ls) (gather2.gather-b.ensures.0 ls) refill.refill.ensures append.append.ensures.1,
     )
 
 pub part_spec : {M : Type 1} → statement M

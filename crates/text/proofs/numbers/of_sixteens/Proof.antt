@@ -47,8 +47,8 @@ loop-again : tie.Need-loop-i-preserved invariant-loop decreases-loop
 loop-again c =
     let loop = (turn c).loop-i in (
       omega arith,
-      sixteens_more loop.i loop.n c.wide.result loop.inv.1 (hex_small _ _ (is c)),
-      read_more hex_digit 16 _ loop.i loop.n c.wide.result (omega arith) (is c) ∙ loop.inv.2,
+      sixteens_more loop.i loop.n c.wide.result loop.invariant.1 (hex_small _ _ (is c)),
+      read_more hex_digit 16 _ loop.i loop.n c.wide.result (omega arith) (is c) ∙ loop.invariant.2,
     )
 
 returns-2 : tie.Need-returns invariant-loop decreases-loop

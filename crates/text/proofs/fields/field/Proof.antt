@@ -21,13 +21,13 @@ add-from : tie.Need-overflow_add-from invariant-loop decreases-loop
 add-from c =
     let start = c.before.before.before.before in
     let loop = c.loop-j in
-    omega (arith, (begins_next start.args.line.now loop.j loop.from c.end_of_lem.result loop.invariant.2 c.end_of_lem.ensures (omega arith)).0)
+    omega (arith, (begins_next start.args.line.now loop.j loop.from c.end_of-from.result loop.invariant.2 c.end_of-from.ensures (omega arith)).0)
 
 loop-again : tie.Need-loop-j-preserved invariant-loop decreases-loop
 loop-again c =
     let start = c.before.before.before.before in
     let loop = c.loop-j in
-    let next = begins_next start.args.line.now loop.j loop.from c.end_of_lem.result loop.invariant.2 c.end_of_lem.ensures (omega arith) in
+    let next = begins_next start.args.line.now loop.j loop.from c.end_of-from.result loop.invariant.2 c.end_of-from.ensures (omega arith) in
     (omega arith, omega (arith, next.0), next.1)
 
 sub-result : tie.Need-slice_bounds-result-count invariant-loop decreases-loop

@@ -17,14 +17,14 @@ write-decimal-requires c κs = omega (arith, decimal_short c.args.i)
 
 decimal-requires : tie.Need-decimal-b-requires
 decimal-requires c κs =
-    let start = c.before.before.before.before.before.before.before in
+    let start = c in
     omega (arith, c.write_decimal-a.ensures.1, c.write_decimal-a.auto.out, decimal_short start.args.i)
 
 write-summary-requires : tie.Need-write_summary-c-requires
 write-summary-requires c κs =
     let write-decimal = c.before.before.before.before.before.before.before in
-    let rows_of_lem = write-decimal.before.before in
-    let start = rows_of_lem.before.before in
+    let rows_of-rows = write-decimal.before.before in
+    let start = rows_of-rows.before.before in
     let e = c.decimal-b.ensures in (
       start.requires.0,
       omega (
@@ -34,7 +34,7 @@ write-summary-requires c κs =
         decimal_short start.args.i,
         e.end,
         wrote_long e,
-        tabbed-decimal rows_of_lem.rows_of_lem.result,
+        tabbed-decimal rows_of-rows.rows_of_lem.result,
       ),
     )
 
@@ -42,8 +42,8 @@ newline-requires : tie.Need-newline-requires
 newline-requires c κs =
     let decimal = c.before.before.before.before.before.before.before in
     let write-decimal = decimal.before.before.before.before in
-    let rows_of_lem = write-decimal.before.before in
-    let start = rows_of_lem.before.before in
+    let rows_of-rows = write-decimal.before.before in
+    let start = rows_of-rows.before.before in
     let e = decimal.decimal-b.ensures in
     let f = c.write_summary-c.ensures in
     omega (
@@ -53,7 +53,7 @@ newline-requires c κs =
       decimal_short start.args.i,
       e.end,
       wrote_long e,
-      tabbed-decimal rows_of_lem.rows_of_lem.result,
+      tabbed-decimal rows_of-rows.rows_of_lem.result,
       f.end,
       wrote_long f,
       summary_short _ _ start.requires.0,
@@ -64,11 +64,11 @@ returns c =
     let write-summary = c.before.before.before.before.before.before in
     let decimal = write-summary.before.before.before.before in
     let write-decimal = decimal.before.before.before.before in
-    let rows_of_lem = write-decimal.before.before in
-    let start = rows_of_lem.before.before in
+    let rows_of-rows = write-decimal.before.before in
+    let start = rows_of-rows.before.before in
     let a = start.args in
     let first = wrote_decimal a.i (omega arith) write-decimal.write_decimal-a.ensures in
-    let rows = wrote_is (ap (λ n. tabbed (decimal_of n ∷ [])) rows_of_lem.rows_of_lem.ensures) decimal.decimal-b.ensures in
+    let rows = wrote_is (ap (λ n. tabbed (decimal_of n ∷ [])) rows_of-rows.rows_of_lem.ensures) decimal.decimal-b.ensures in
     wrote_is (entry_is _ _ start.requires.0 a.i) (wrote_both (wrote_both (wrote_both first rows) write-summary.write_summary-c.ensures)
     c.newline.ensures)
 

@@ -1,19 +1,24 @@
 -- The steps under test, each the rule itself. Names that no step uses serve the edits.
-use Rattle.std.specs.Prelude.{ℕ, true, List, [], ◌∷◌, Float}
+use Rattle.std.specs.Prelude.{ℕ, Bool, true, false, cond, List, [], ◌∷◌, ◌++◌, map, reverse, length, set, Float}
+use Rattle.std.specs.Float.Ieee.{lt}
+use Rattle.binary64.specs.Operators.{infinity}
 use Rattle.feature.specs.declared.Summary.{Summary}
 use Rattle.head.specs.declared.Settings.{Settings}
 use Rattle.rules.specs.declared.Nearest.{Nearest}
 use Rattle.rules.specs.declared.Nearest.TheVariants.{Entry, Nothing}
 use Rattle.rules.specs.declared.Verdict.{Verdict}
+use Rattle.rules.specs.declared.Verdict.TheVariants.{Passes, Fails}
 use Rattle.rules.specs.declared.Pair.{Pair}
-use Rattle.rules.specs.Lists.{change_at}
-use Rattle.rules.specs.Tree.{Tree, push}
-use Rattle.rules.specs.Split.{split}
-use Rattle.rules.specs.Insert.{absorbed_or_begun, grown, row_item}
-use Rattle.rules.specs.Reinsert.{reinserted}
-use Rattle.rules.specs.Rebuild.{Merging, merge_one, rebuilt}
+use Rattle.rules.specs.Lists.{change_at, snoc, keep, flip, up_from}
+use Rattle.rules.specs.Tree.{Node, Tree, push, dist_to, blank_node, node_at, entry_at, with_nodes}
+use Rattle.rules.specs.Split.{stays, half, split}
+use Rattle.rules.specs.Insert.{absorbed, absorbed_or_begun, grown, row_item}
+use Rattle.rules.specs.Reinsert.{collected, cleared, replaced_all, reinserted}
+use Rattle.rules.specs.Refold.{refolded}
+use Rattle.rules.specs.Rebuild.{Merging, merge_one, counted, rebuilt}
 use Rattle.rules.specs.Check.{checked}
-use Rattle.promises.specs.Demand.{standing, owners_in, owners_refit}
+use Rattle.counting.specs.Places.{place_in}
+use Rattle.promises.specs.Demand.{standing, taker, owners_in, owners_refit}
 use Rattle.laws.specs.Moves.{rebalanced_to}
 use Rattle.rules.specs.Route.{greedy}
 use Rattle.rules.specs.Rows.{inserted, inserted_all}

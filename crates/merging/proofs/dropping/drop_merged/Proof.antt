@@ -18,13 +18,13 @@ number-requires c κs =
 
 keep-entries-requires : tie.Need-keep_entries-requires
 keep-entries-requires c κs =
-    let start = c.before.before.before.before.before.before.before.before.before in
+    let start = c.before.before.before.before.before.before.before.before in
     let number = c.number-kept in
     ((start.requires.0.0, rw number.auto.numbers start.requires.0.2), numbered_own start.args.numbers.now _ _ number.ensures.1)
 
 keep-lists-requires : tie.Need-keep_lists-requires
 keep-lists-requires c κs =
-    let start = c.before.before.before.before.before.before.before.before.before.before.before.before.before.before in
+    let start = c.before.before.before.before.before.before.before.before.before.before.before.before in
     let number = c.number-kept in (
       (start.requires.0.1, rw number.auto.numbers start.requires.0.2, λ gs. leaves_same _ _ _ start.args.floats.now gs _ refl refl start.requires.1),
       numbered_own start.args.numbers.now _ _ number.ensures.1,
@@ -34,7 +34,7 @@ returns : tie.Need-returns
 returns c =
     let kept = c.before.before.before.before.before.before.before.before in
     let numbered = kept.before.before.before.before.before in
-    let start = numbered.before.before.before.before.before in
+    let start = numbered.before.before.before in
     let number = numbered.number-kept in
     let s = start.args.s in
     let n = start.args.n in

@@ -32,18 +32,15 @@ keep-lists-requires c κs =
 
 returns : tie.Need-returns
 returns c =
-    let kept = c.before.before.before.before.before.before.before.before in
-    let numbered = kept.before.before.before.before.before in
-    let start = numbered.before.before.before in
-    let number = numbered.number-kept in
-    let s = start.args.s in
-    let n = start.args.n in
-    let ns = start.args.numbers.now in
+    let number = c.number-kept in
+    let s = c.args.s in
+    let n = c.args.n in
+    let ns = c.args.numbers.now in
     let bs = alive_in ns n.entries in
     let same = numbered_alive ns number.new.numbers n.entries number.ensures.1 in
     let is : c.with_entries.result ≡ count_entries (count_up bs) n = c.with_entries.ensures ∙ ap (λ k. count_entries k n) number.ensures.0 in (
       is,
-      dropped-is s n _ bs _ start.args.floats.now _ start.args.links.now _ same is kept.keep_entries.ensures
+      dropped-is s n _ bs _ c.args.floats.now _ c.args.links.now _ same is c.keep_entries.ensures
           c.keep_lists.ensures,
     )
 

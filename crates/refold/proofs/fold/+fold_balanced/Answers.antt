@@ -1,5 +1,5 @@
 -- `refold::fold::fold_balanced` meets its contract: the halves are folded in parts of scratch that are apart.
-use Rattle.std.proofs.Common.{ℕ, ◌≡◌, ◌+◌, ◌-◌, ◌*◌, ◌/◌, ◌≤◌, ◌<◌, ◌≢◌, List, length, take, drop, refl, sym, ap, subst, ◌∙◌, arith, rules, Fits, w64, length-drop, length-take-le, take_all}
+use Rattle.std.proofs.Common.{ℕ, ◌≡◌, ◌+◌, ◌-◌, ◌*◌, ◌/◌, ◌≤◌, List, length, take, drop, refl, sym, ap, subst, ◌∙◌, arith, rules, length-drop, length-take-le, take_all}
 use Rattle.head.specs.declared.Settings.{Settings}
 use Rattle.head.specs.Sizes.{slot_width}
 use Rattle.rules.specs.Tree.{child}

@@ -66,7 +66,7 @@ merge-by-requires-2 c κs =
       (
         start.requires.0.0,
         start.requires.0.1,
-        rw (far.auto.costs, far.auto.numbers, near.auto.1.1.1.1.0, near.auto.1.1.1.1.1.0)
+        rw (far.auto.costs, far.auto.numbers, near.auto.costs, near.auto.numbers)
             start.requires.0.2,
       ),
       record {

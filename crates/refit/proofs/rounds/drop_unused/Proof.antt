@@ -13,11 +13,11 @@ abbrev start : tie.After-drop_merged-m → tie.Start
 start c = c.before.before.before.before.before.before.before.before
 
 abbrev dropping : tie.After-enough → tie.After-drop_merged-m
-dropping c = c.before.before.before.before.before.before.before.before
+dropping c = c.before.before.before.before.before.before.before
 
 enough-requires : tie.Need-enough-requires
 enough-requires c κs =
-    let dropped = c.before.before.before.before.before.before.before in
+    let dropped = c.before.before.before.before.before.before in
     let start = start dropped in
     let a = start.args in
     let drop = dropped.drop_merged-m in

@@ -38,22 +38,22 @@ loop-again c =
     let list = start.args.list.now in
     let few = start.requires.3 in
     elim c.if-goes_first.branch [
-    then-goes_first w ↦ (
-      omega arith,
-      rw (w.ones-is, w.twos-is) (omega arith),
-      rw w.one-is (simp length-set loop.invariant.2),
-      rw w.two-is loop.invariant.3,
-      λ ls. rw (w.one-is, w.two-is, w.ones-is, w.twos-is) (placed_first _ _ list loop.k loop.ones loop.twos loop.one loop.two taken (omega arith)
-          (sym w.if-goes_first.true ∙ first.ensures ls) (loop.invariant.4 ls)),
-    )
-    | else-goes_first w ↦ (
-      omega arith,
-      rw (w.ones-is, w.twos-is) (omega arith),
-      rw w.one-is loop.invariant.2,
-      rw w.two-is (simp length-set loop.invariant.3),
-      λ ls. rw (w.one-is, w.two-is, w.ones-is, w.twos-is) (placed_second _ _ list loop.k loop.ones loop.twos loop.one loop.two taken (omega arith)
-          (sym w.if-goes_first.false ∙ first.ensures ls) (loop.invariant.4 ls)),
-    )
+      | then-goes_first w ↦ (
+        omega arith,
+        rw (w.ones-is, w.twos-is) (omega arith),
+        rw w.one-is (simp length-set loop.invariant.2),
+        rw w.two-is loop.invariant.3,
+        λ ls. rw (w.one-is, w.two-is, w.ones-is, w.twos-is) (placed_first _ _ list loop.k loop.ones loop.twos loop.one loop.two taken (omega arith)
+            (sym w.if-goes_first.true ∙ first.ensures ls) (loop.invariant.4 ls)),
+      )
+      | else-goes_first w ↦ (
+        omega arith,
+        rw (w.ones-is, w.twos-is) (omega arith),
+        rw w.one-is loop.invariant.2,
+        rw w.two-is (simp length-set loop.invariant.3),
+        λ ls. rw (w.one-is, w.two-is, w.ones-is, w.twos-is) (placed_second _ _ list loop.k loop.ones loop.twos loop.one loop.two taken (omega arith)
+            (sym w.if-goes_first.false ∙ first.ensures ls) (loop.invariant.4 ls)),
+      )
     ]
 
 returns : tie.Need-returns invariant-loop decreases-loop

@@ -48,22 +48,22 @@ loop-again c =
     let d = c.between-d in
     let u = seeds loop.a loop.b loop.most in
     elim c.if-most-d.branch [
-    then-most-d w ↦ (
-      omega arith,
-      rw w.a-is start.requires.2,
-      rw w.b-is taken,
-      λ ls. let f = child (tree_of a.s a.n a.floats.now ls) a.leaf in rw (w.a-is, w.b-is, w.most-is)
-          (with_turn a.s f a.list.now a.k _ loop.j u taken (d.ensures ls)
-          (farther_yes loop.a loop.b loop.most a.k loop.j d.result w.if-most-d.true) ∙ loop.invariant.3 ls),
-    )
-    | else-most-d w ↦ (
-      omega arith,
-      rw w.a-is loop.invariant.1,
-      rw w.b-is loop.invariant.2,
-      λ ls. let f = child (tree_of a.s a.n a.floats.now ls) a.leaf in rw (w.a-is, w.b-is, w.most-is)
-          (with_turn a.s f a.list.now a.k _ loop.j u taken (d.ensures ls)
-          (farther_no loop.a loop.b loop.most a.k loop.j d.result w.if-most-d.false) ∙ loop.invariant.3 ls),
-    )
+      | then-most-d w ↦ (
+        omega arith,
+        rw w.a-is start.requires.2,
+        rw w.b-is taken,
+        λ ls. let f = child (tree_of a.s a.n a.floats.now ls) a.leaf in rw (w.a-is, w.b-is, w.most-is)
+            (with_turn a.s f a.list.now a.k _ loop.j u taken (d.ensures ls)
+            (farther_yes loop.a loop.b loop.most a.k loop.j d.result w.if-most-d.true) ∙ loop.invariant.3 ls),
+      )
+      | else-most-d w ↦ (
+        omega arith,
+        rw w.a-is loop.invariant.1,
+        rw w.b-is loop.invariant.2,
+        λ ls. let f = child (tree_of a.s a.n a.floats.now ls) a.leaf in rw (w.a-is, w.b-is, w.most-is)
+            (with_turn a.s f a.list.now a.k _ loop.j u taken (d.ensures ls)
+            (farther_no loop.a loop.b loop.most a.k loop.j d.result w.if-most-d.false) ∙ loop.invariant.3 ls),
+      )
     ]
 
 returns : tie.Need-returns invariant-loop decreases-loop

@@ -85,7 +85,7 @@ tree-none (Fails n) e = let z : ◌≡◌ {A = ℕ} 0 1 = cc in absurd (omega ar
 -- 4
 pub row_shape_none : (dim n : ℕ) → row_shape_refusal dim n ≡ [] → n ≡ dim
 unfolding row_shape_refusal
-row_shape_none dim n e = eqb-true n dim (unless-none (eqb n dim) (R.Shape dim n) e)
+row_shape_none dim n e = eqb-true n dim (unless-none (eqb n dim) _ e)
 
 pub batch_shape_none : (dim n : ℕ) → batch_shape_refusal dim n ≡ [] → n % dim ≡ 0
 unfolding batch_shape_refusal

@@ -38,7 +38,7 @@ abbrev start-3 : tie.Else-not-lists_fit → tie.Start
 start-3 c = start-2 c.before.before
 
 abbrev start-4 : tie.In-Whole → tie.Start
-start-4 c = start-3 c.before.before.before.before
+start-4 c = start-3 c.before.before.before
 
 abbrev start-5 : tie.Else-not-filled → tie.Start
 start-5 c = start-4 c.before.before
@@ -75,7 +75,7 @@ walked c = sym (c.walk_once.ensures (start-4 c).args.floats.now) ∙ c.in-Whole.
 
 met-4 : (c : tie.In-Whole) → Met 4 (start-4 c)
 unfolding tested whole
-met-4 c = holds 4 _ _ (met-3 c.before.before.before.before) (ap whole (walked c))
+met-4 c = holds 4 _ _ (met-3 c.before.before.before) (ap whole (walked c))
 
 met-5 : (c : tie.Else-not-filled) → Met 5 (start-5 c)
 unfolding tested

@@ -1,5 +1,6 @@
 // The way of an item into the tree: down to a leaf, the search in it, and the path back up.
 #![tactic(auto)]
+
 pub mod form;
 pub mod leaf;
 pub mod path;

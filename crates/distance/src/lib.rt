@@ -1,6 +1,7 @@
 // Six distances from a summary to a row and between two summaries, by the numbers that they are made of. Euclidean is squared; no
 // square root is taken.
 #![tactic(auto)]
+
 ghost use Rattle.std.specs.Prelude.{◌≡◌, ◌≤◌, length};
 ghost use Rattle.kernels.specs.Channels.{at, sum_to};
 ghost use Rattle.feature.specs.Summaries.{Dim};

@@ -1,5 +1,6 @@
 // A summary of rows: how many, their mean, and their squared deviation from it.
 #![tactic(auto)]
+
 ghost use Rattle.std.specs.Prelude.{◌≡◌, ◌≤◌, length};
 ghost use Rattle.kernels.specs.Channels.{up_to};
 ghost use Rattle.feature.specs.Summaries.{Dim, slots_of, blank};

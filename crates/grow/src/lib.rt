@@ -1,5 +1,6 @@
 // One row, or one summary, into the tree, before any rebuild.
 #![tactic(auto)]
+
 ghost use Rattle.std.specs.Prelude.{◌≡◌, ◌+◌, ◌≤◌, ◌<◌, length};
 ghost use Rattle.feature.specs.Shape.{Shaped};
 ghost use Rattle.head.specs.Sizes.{entry_cap, block_width};

@@ -1,5 +1,6 @@
 // The two groups that a split makes of a list.
 #![tactic(auto)]
+
 pub mod seeds;
 
 ghost use Rattle.std.specs.Prelude.{◌≡◌, map, ◌<◌, ◌≤◌, length, get_or};

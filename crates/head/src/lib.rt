@@ -1,5 +1,6 @@
 // The head that a caller lends by value, the sizes that its settings ask for, and the refusals.
 #![tactic(auto)]
+
 pub mod changes;
 pub mod limits;
 pub mod refusal;

@@ -1,5 +1,6 @@
 // Rows into the tree, one after the other, with a rebuild whenever entries exceed M.
 #![tactic(auto)]
+
 ghost use Rattle.std.specs.Prelude.{◌≡◌, ◌*◌, ◌≤◌, length};
 ghost use Rattle.rules.specs.Lists.{rows_of};
 ghost use Rattle.rules.specs.Slices.{tree_of};

@@ -1,5 +1,6 @@
 // The two sums over the channels of two means, from 0, from the first channel to the last.
 #![tactic(auto)]
+
 ghost use Rattle.std.specs.Prelude.{◌≡◌, ◌≤◌, length, replicate};
 ghost use Rattle.binary64.specs.Operators.{f0};
 ghost use Rattle.kernels.specs.Channels.{at, up_to, sum_to, square_at, size_at};

@@ -1,5 +1,6 @@
 // Conditions 3 and 5: what the lists hold, and that none is empty.
 #![tactic(auto)]
+
 pub mod rooted;
 
 ghost use Rattle.std.specs.Prelude.{◌≡◌, ◌&&◌, ◌||◌, ◌<◌, ltb, length};

@@ -4,7 +4,7 @@ use Rattle.std.specs.Prelude.{◌≡◌, Bool, true, false, cond, Float, length,
 use Rattle.std.proofs.Math.Path.{refl, sym, ap}
 use Rattle.std.proofs.Common.{ap₂, ◌∙◌, add-one, arith, drop_of_length-le, drop-cons, take-suc-set}
 use mathlib.Core.List.{List, [], ◌∷◌, ◌++◌, map, filter_map, append_assoc}
-use Rattle.std.proofs.Math.Option.{Option, Option·elim, none, some}
+use Rattle.std.proofs.Math.Option.{Option, Option-elim, none, some}
 use Rattle.std.proofs.Math.ListN.{get_or, drop}
 use Rattle.head.specs.declared.Settings.{Settings}
 use Rattle.head.specs.declared.Counters.{Counters}
@@ -81,7 +81,7 @@ module _ (f : ℕ → Option ℕ) (list : List ℕ) where
       ap (λ x. x ++ filter_map f (drop (k + 1) list)) e ∙ go (f (get_or list k 0)) (filter_map f (drop (k + 1) list))
       ∙ sym (ap (λ x. l ++ filter_map f x) (drop-cons list k 0 h ∙ ap (λ j. get_or list k 0 ∷ drop j list) (sym (add-one k))))
     where
-      go : (o : Option ℕ) (r : List ℕ) → plus_of l o ++ r ≡ l ++ Option·elim o r (λ b. b ∷ r)
+      go : (o : Option ℕ) (r : List ℕ) → plus_of l o ++ r ≡ l ++ Option-elim o r (λ b. b ∷ r)
       go none r = unfold plus_of in refl
       go (some b) r = unfold plus_of snoc in append_assoc l (b ∷ []) r
 
@@ -92,7 +92,7 @@ module _ (f : ℕ → Option ℕ) (list : List ℕ) where
 filter_same : (f g : ℕ → Option ℕ) (l : List ℕ) → ((k : ℕ) → k < length l → f (get_or l k 0) ≡ g (get_or l k 0)) → filter_map f l ≡ filter_map g l
 unfolding filter_map
 filter_same f g [] e = refl
-filter_same f g (x ∷ l) e = ap₂ (λ o r. Option·elim o r (λ b. b ∷ r)) (e 0 (omega arith)) (filter_same f g l (λ k h. e (suc k) (omega arith)))
+filter_same f g (x ∷ l) e = ap₂ (λ o r. Option-elim o r (λ b. b ∷ r)) (e 0 (omega arith)) (filter_same f g l (λ k h. e (suc k) (omega arith)))
 
 -- the words are the rules' new numbers
 pub kept-numbers : (n : Counters) (bs : List Bool) (ns list : List ℕ) → Numbered bs ns n.entries → ChildrenIn n true list

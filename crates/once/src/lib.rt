@@ -1,5 +1,6 @@
 // Condition 4, the entries: every entry is in one leaf list, once.
 #![tactic(auto)]
+
 ghost use Rattle.std.specs.Prelude.{◌≡◌, ◌+◌, ◌≤◌, ◌<◌, length};
 ghost use Rattle.rules.specs.Lists.{occurs};
 ghost use Rattle.rules.specs.Tree.{node_at};

@@ -1,5 +1,6 @@
 // Which entries a rebuild merges, and in which order.
 #![tactic(auto)]
+
 pub mod cousins;
 pub mod partner;
 pub mod siblings;

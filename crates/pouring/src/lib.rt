@@ -1,5 +1,6 @@
 // Entries started afresh: each row pushed into the entry that it is routed to, on summaries in scratch while the tree stays as it is.
 #![tactic(auto)]
+
 ghost use Rattle.std.specs.Prelude.{◌≡◌, map, ◌+◌, ◌*◌, ◌≤◌, ◌<◌, length, replicate};
 ghost use Rattle.feature.specs.Summaries.{blank};
 ghost use Rattle.head.specs.Limits.{Sized};

@@ -1,7 +1,7 @@
 -- Demand 3, as it is stated: what a reader has to believe of it, and nothing else.
 -- `Runs.Public.calls_keep` proves `Promise` at the end of any `Calls`, `Runs.Created.created_keeps` what a start from creation adds to it,
 -- and `Runs.Public.calls_local` proves `Local` of any row without a rebuild.
-use Rattle.std.specs.Prelude.{ℕ, zero, suc, ◌+◌, ◌-◌, ◌/◌, ◌≤◌, ◌<◌, ◌≡◌, ◌⊎◌, Bool, true, false, not, cond, List, [], ◌∷◌, ◌++◌, map, length, get_or, replicate, ltb, eqb, Float}
+use Rattle.std.specs.Prelude.{ℕ, zero, suc, ◌+◌, ◌/◌, ◌≤◌, ◌<◌, ◌≡◌, ◌⊎◌, Bool, true, false, not, cond, List, [], ◌∷◌, ◌++◌, map, length, get_or, replicate, ltb, eqb, Float}
 use Rattle.std.proofs.Math.Option.{Option, none, some}
 use Rattle.std.specs.Float.Ieee.{eq}
 use Rattle.binary64.specs.Whole.{whole, most}

@@ -1,6 +1,7 @@
 // The rebuild, when entries exceed M: merges until the target, the grown threshold, the merged ones dropped, reinsertion where it is due,
 // and every node made anew.
 #![tactic(auto)]
+
 ghost use Rattle.std.specs.Prelude.{◌≡◌, ◌||◌, ◌+◌, ◌-◌, ◌≤◌, leb, length};
 ghost use Rattle.head.specs.Limits.{Sized};
 ghost use Rattle.head.specs.Sizes.{entry_cap};

@@ -1,5 +1,6 @@
 // The refit: every entry made anew from the rows that finally route to it.
 #![tactic(auto)]
+
 pub mod rounds;
 
 ghost use Rattle.std.specs.Prelude.{◌≡◌, ◌*◌, ◌≤◌, length};

@@ -179,7 +179,7 @@ module _ (s : Settings) (t : Tree) (u : Standing s t) where
   rank_by (suc r) m h l = go (leaf? (node_at t m)) (λ k q b. rank_by r k q b)
     where
       go : ((node_at t m).leaf ≡ true) ⊎ ((node_at t m).leaf ≡ false) → ((k : ℕ) → R k < r → k < N → R k < size k) → R m < size m
-      go (inl e) ih = let a = under-leaf frame (λ _. 1) m l e in let b = frame.ground m l e in omega arith
+      go (inl e) ih = let a = under-leaf frame (λ _. 1) m l e in let b = frame.grounded m l e in omega arith
       go (inr e) ih =
           let (k, o, q, b) = first_kid m l e in
           let a = under-inner frame (λ _. 1) m l e in

@@ -1,5 +1,6 @@
 // The refold: each node's summary made anew from its list, children before their parents.
 #![tactic(auto)]
+
 pub mod fold;
 pub mod walk;
 

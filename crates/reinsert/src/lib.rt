@@ -1,5 +1,6 @@
 // Reinsertion: the entries collected depth first, the nodes forgotten, and the entries placed back to front, none absorbed.
 #![tactic(auto)]
+
 pub mod collect;
 
 ghost use Rattle.std.specs.Prelude.{◌≡◌, reverse, ◌*◌, ◌≤◌, length};

@@ -1,5 +1,6 @@
 // Greedy routing: down to a leaf, and the closest of its entries.
 #![tactic(auto)]
+
 ghost use Rattle.std.specs.Prelude.{◌≡◌, true, ◌≤◌, ◌<◌, length};
 ghost use Rattle.rules.specs.Tree.{dist_to, entry_at};
 ghost use Rattle.rules.specs.Slices.{tree_of};

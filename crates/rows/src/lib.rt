@@ -1,5 +1,6 @@
 // A batch: rows of dim numbers one after the other in a slice.
 #![tactic(auto)]
+
 ghost use Rattle.std.specs.Prelude.{◌≡◌, ◌+◌, ◌*◌, ◌≤◌, length};
 ghost use Rattle.rows.specs.Rows.{row_of};
 

@@ -23,12 +23,12 @@ use Rattle.head.specs.declared.refusal.Answer.TheVariants.{Accepted}
 use Rattle.head.specs.Heads.{settings_of}
 use Rattle.head.specs.Limits.{Sized, allowed-sized}
 use Rattle.head.specs.Sizes.{node_cap, slot_width, block_width, links_needed}
-use Rattle.rules.specs.Lists.{every, rows_of}
+use Rattle.rules.specs.Lists.{rows_of}
 use Rattle.rules.specs.Tree.{Tree, node_at, entry_at}
 use Rattle.rules.specs.Refit.{refitted}
 use Rattle.rules.specs.Slices.{stretch, filled_to, eight, summary_in, summary_out, no_parent, parent_in, parent_out, leaf_in, length_in, kind_out, node_in, block_out, slot_at, block_at}
 use Rattle.rules.specs.ListLaws.{below?}
-use Rattle.rules.specs.Stored.{Fits, means_long, slots_in_lem, stored}
+use Rattle.rules.specs.Stored.{Fits, means_long, slots_in_lem}
 use Rattle.rules.specs.Calls.{Lent, Left, lent_tree, change_refusals, batch_refusals, refit_refusals, changed, settle, batch_inserted, batch_refitted}
 use Rattle.rules.specs.RefusalLaws.{accepted_none, none_both}
 use Rattle.rules.specs.CallLaws.{accepted_done, Ready, change_ready, head-again}

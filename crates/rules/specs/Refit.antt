@@ -2,7 +2,6 @@
 use Rattle.std.specs.Prelude.{ℕ, zero, suc, Bool, true, false, cond, ◌||◌, ◌&&◌, not, List, [], ◌∷◌, map, length, leb, eqb, Float}
 use Rattle.std.specs.Float.Ieee.{lt}
 use Rattle.binary64.specs.Operators.{f0}
-use Rattle.kernels.specs.Channels.{at}
 use Rattle.feature.specs.Summaries.{blank}
 use Rattle.feature.specs.declared.Summary.{Summary}
 use Rattle.head.specs.declared.Settings.{Settings}

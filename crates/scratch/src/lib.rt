@@ -1,3 +1,4 @@
 // What a rebuild keeps in scratch.
 #![tactic(auto)]
+
 pub mod stored;

@@ -1,5 +1,6 @@
 // A set of numbers below 256, a bit each in four words.
 #![tactic(auto)]
+
 ghost use Rattle.std.specs.Prelude.{◌≡◌, ◌/◌, ◌<◌, eqb};
 ghost use Rattle.seen.specs.Sets.{none, word_of, bit_of, times, with};
 

@@ -1,5 +1,6 @@
 // The split of a node that is over its cap, and its way up to a new root.
 #![tactic(auto)]
+
 pub mod gather;
 pub mod groups;
 pub mod part;

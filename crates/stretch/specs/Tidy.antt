@@ -15,7 +15,7 @@ use Rattle.head.specs.Sizes.{block_width}
 use Rattle.rules.specs.Slices.{eight, filled_to, summary_in, summary_out, no_parent, parent_in, parent_out, leaf_in, kind_out, length_in, node_in, block_out}
 use Rattle.stretch.specs.Stretches.{put_stretch, put_rest}
 use Rattle.stretch.specs.Slots.{Slot}
-use Rattle.stretch.specs.Blocks.{Block, block, list_length, list_in}
+use Rattle.stretch.specs.Blocks.{Block, list_length, list_in}
 
 -- a slot without what its feature does not keep
 unfoldable pub tidy_slot : Settings → List Float → List Float

@@ -3,7 +3,6 @@ use Prim.Native.Nat.{◌-◌, ◌≤◌, min}
 use mathlib.Core.Path.{◌≡◌, refl, sym, ◌∙◌}
 use native.Mathlib.Omega.{arith}
 use borrow.Author.Rules.{rules}
-use mathlib.Core.Logic.{inl, inr}
 use Rattle.kernels.specs.Channels.{up_to}
 use Rattle.kernels.specs.Laws.{up_to_turn, up_to_pass, min_start, min_end}
 use Rattle.feature.specs.Steps.{moved_at}

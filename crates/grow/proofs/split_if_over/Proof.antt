@@ -11,7 +11,7 @@ returns c =
     let start = c.before.before.before.before in
     let a = start.args in
     let t = tree_of a.s a.n a.floats.now a.links.now in
-    let within = sym (c.fits2.ensures a.floats.now) ∙ c.if-fits.true in
+    let within = sym (c.fits.ensures a.floats.now) ∙ c.if-fits.true in
     (start.requires.0, sym (up_fits a.s a.n.nodes a.i t within) ∙ up_start a.s a.n.nodes a.i t start.requires.1.nodes)
 
 pub split_if_over_spec : {M : Type 1} → statement M

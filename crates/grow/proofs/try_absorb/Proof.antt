@@ -86,7 +86,7 @@ search-leaf-requires c κs =
 
 alone-requires : tie.Need-alone-requires
 alone-requires c κs =
-    let near = c.before.before.before.before in
+    let near = c.before.before.before in
     let start = start near in
     (start.requires.0.0.sized, row_fits start)
 
@@ -109,7 +109,7 @@ returns c =
 
 absorbs-requires : tie.Need-absorbs-requires
 absorbs-requires c κs =
-    let near = c.before.before.before.before in
+    let near = c.before in
     ((start near).requires.0.0, there near c.in-Entry.is, (start near).requires.0.2)
 
 push-requires : tie.Need-push-requires

@@ -1,7 +1,6 @@
 -- `halves::halves_of` meets its contract: what stands in the two arrays, and the flags of what is left, give the two groups.
 use Prim.Native.Nat.{◌+◌, ◌-◌, ◌≤◌}
 use mathlib.Core.Path.{◌≡◌, refl, sym, ◌∙◌}
-use mathlib.Core.Logic.{⊎_elim}
 use native.Mathlib.Omega.{arith}
 use lib.ListN.{length, get_or, length-set}
 use Rattle.rules.specs.Slices.{tree_of}
@@ -11,6 +10,7 @@ use Rattle.arena.specs.Trees.{AnyLinks}
 use Rattle.halves.specs.Halves.{Dealt, placed_start, placed_first, placed_second, placed_end}
 use Rattle.halves.proofs.halves_of.Statement.{statement}
 use Rattle.halves.proofs.halves_of.Tie as tie
+use Rattle.halves.proofs.halves_of.Lts.{then-goes_first, else-goes_first}
 
 abbrev invariant-loop : tie.invariant-loop-k
 invariant-loop s n floats leaf list w one₀ two₀ ones₀ twos₀ k₀ one two ones twos k =
@@ -37,24 +37,24 @@ loop-again c =
     let start = c.before.before.before.before.before.before in
     let list = start.args.list.now in
     let few = start.requires.3 in
-    ⊎_elim
-    (λ w. (
-      omega arith,
-      rw (w.4, w.5) (omega arith),
-      rw w.2 (simp length-set loop.invariant.2),
-      rw w.3 loop.invariant.3,
-      λ ls. rw (w.2, w.3, w.4, w.5) (placed_first _ _ list loop.k loop.ones loop.twos loop.one loop.two taken (omega arith)
-          (sym w.0.true ∙ first.ensures ls) (loop.invariant.4 ls)),
-    ))
-    (λ w. (
-      omega arith,
-      rw (w.4, w.5) (omega arith),
-      rw w.2 loop.invariant.2,
-      rw w.3 (simp length-set loop.invariant.3),
-      λ ls. rw (w.2, w.3, w.4, w.5) (placed_second _ _ list loop.k loop.ones loop.twos loop.one loop.two taken (omega arith)
-          (sym w.0.false ∙ first.ensures ls) (loop.invariant.4 ls)),
-    ))
-    c.if-goes_first.branch
+    elim c.if-goes_first.branch [
+      | then-goes_first w ↦ (
+        omega arith,
+        rw (w.ones-is, w.twos-is) (omega arith),
+        rw w.one-is (simp length-set loop.invariant.2),
+        rw w.two-is loop.invariant.3,
+        λ ls. rw (w.one-is, w.two-is, w.ones-is, w.twos-is) (placed_first _ _ list loop.k loop.ones loop.twos loop.one loop.two taken (omega arith)
+            (sym w.if-goes_first.true ∙ first.ensures ls) (loop.invariant.4 ls)),
+      )
+      | else-goes_first w ↦ (
+        omega arith,
+        rw (w.ones-is, w.twos-is) (omega arith),
+        rw w.one-is loop.invariant.2,
+        rw w.two-is (simp length-set loop.invariant.3),
+        λ ls. rw (w.one-is, w.two-is, w.ones-is, w.twos-is) (placed_second _ _ list loop.k loop.ones loop.twos loop.one loop.two taken (omega arith)
+            (sym w.if-goes_first.false ∙ first.ensures ls) (loop.invariant.4 ls)),
+      )
+    ]
 
 returns : tie.Need-returns invariant-loop decreases-loop
 returns c =

@@ -51,7 +51,7 @@ returns c =
     let start = start grown in
     let grow = grown.grow-m in
     let new = c.rebuild in (
-      (rw grow.auto.1.1.0 at new.ensures.0.0, rw grow.auto.1.1.1.0 at new.ensures.0.1),
+      (rw grow.auto.floats at new.ensures.0.0, rw grow.auto.links at new.ensures.0.1),
       new.ensures.1 ∙ ap (rebuilt start.args.s) grow.ensures.1
           ∙ with_rebuild start.args.s start.args.row.now (tree start) (rw (entries grown) test.true),
     )

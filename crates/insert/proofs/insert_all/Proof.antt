@@ -68,10 +68,7 @@ insert-requires c κs =
 
 -- the turn's number is below the count, which fits
 add-k : tie.Need-overflow_add-k invariant-loop decreases-loop
-add-k c =
-    let turn = c.before.before.before.before.before.before.before.before.before.before.before.before.before.before in
-    let fit = (start turn.before).fits in
-    omega (arith, turn.loop-k-test.true)
+add-k c = omega (arith, c.loop-k-test.true, c.ranges.count.fits)
 
 loop-again : tie.Need-loop-k-preserved invariant-loop decreases-loop
 loop-again c =

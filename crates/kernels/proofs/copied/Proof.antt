@@ -5,7 +5,6 @@ use native.Mathlib.Omega.{arith}
 use borrow.Author.Rules.{rules}
 use Rattle.binary64.specs.Operators.{f0}
 use lib.ListN.{replicate}
-use mathlib.Core.Logic.{inl, inr}
 use Rattle.kernels.specs.Channels.{at, up_to}
 use Rattle.kernels.specs.Laws.{up_to_turn, up_to_pass, min_start, min_end}
 use Rattle.kernels.proofs.copied.Statement.{statement}

@@ -232,11 +232,11 @@ module _ (s : Settings) (t : Tree) (h2 : T (rooted t)) (h3 : T (every (list_fits
       → ((i : ℕ) → i < length t.nodes → (node_at t i).leaf ≡ true → R i ≡ 0) → ((i : ℕ) → i < length t.nodes → R i ≤ R t.root)
       → ((r : ℕ) → rank_count R (length t.nodes) (suc r) + 0 ≤ rank_count R (length t.nodes) r - 1)
       → Links s (node_at t) (length t.nodes) t.root (length t.entries) R nil nil nil
-  links_by R falls ground top grows = record {
+  links_by R falls grounded top grows = record {
     root_in = in';
     root_top = root_top';
     kid = (λ i c l f o. ((kid' i c l f o).0, falls i c l f o));
-    ground = ground;
+    grounded = grounded;
     nodes_once = nodes';
     entries_once = entries';
     caps = caps';

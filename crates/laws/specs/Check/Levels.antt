@@ -62,7 +62,7 @@ module _ {s : Settings} (t : Tree) {R : ℕ → ℕ} (g : Links s (node_at t) (l
 
       each : (k : ℕ) → k < length t.nodes → (R k ≡ suc h) ⊎ (R k ≢ suc h) → ((node_at t k).leaf ≡ true) ⊎ ((node_at t k).leaf ≡ false)
           → only (below_of t v k) (suc h) (R k) ≡ below_of t (λ m. only (v m) h (R m)) k
-      each k q (inl e) (inl f) = let z = g.ground k q f in absurd (omega arith)
+      each k q (inl e) (inl f) = let z = g.grounded k q f in absurd (omega arith)
       each k q (inl e) (inr f) =
           only_at (below_of t v k) (suc h) (R k) e ∙ ap (λ b. cond b 0 (over v (node_at t k).list)) f
           ∙ sym (over-same (λ m. only (v m) h (R m)) v (node_at t k).list (λ c o. only_at (v c) h (R c) (let z = (g.kid k c q f o).1 in omega arith)))
@@ -187,7 +187,7 @@ module _ {s : Settings} (t : Tree) {R : ℕ → ℕ} (g : Links s (node_at t) (l
       or_true false = refl
 
       go : (c : ℕ) → c < length t.nodes → R c ≡ suc h → ((node_at t c).leaf ≡ true) ⊎ ((node_at t c).leaf ≡ false) → not (node_at t c).leaf ≡ true
-      go c q e (inl f) = let z = g.ground c q f in absurd (omega arith)
+      go c q e (inl f) = let z = g.grounded c q f in absurd (omega arith)
       go c q e (inr f) = ap not f
 
   kinds : (k h : ℕ) (l : List ℕ) → h ≤ R t.root → Level h l → every (same_kind t) (levels_from t k l) ≡ true

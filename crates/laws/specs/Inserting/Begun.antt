@@ -3,7 +3,6 @@ use Rattle.std.specs.Prelude.{ℕ, suc, ◌+◌, ◌≤◌, ◌<◌, ◌≡◌, 
 use Rattle.std.proofs.Math.Path.{sym, ap, subst}
 use Rattle.std.proofs.Common.{◌∙◌, inl, inr}
 use Rattle.std.proofs.Math.Bool.{true}
-use Rattle.std.proofs.Math.Option.{some}
 use native.Mathlib.Omega.{arith}
 use Rattle.std.proofs.Math.ListN.{length}
 use Rattle.feature.specs.declared.Summary.{Summary}
@@ -159,13 +158,13 @@ looking_of s t R l total g h f = record {
     root_in = g.links.root_in;
     root_top = g.links.root_top;
     kid = g.links.kid;
-    ground = g.links.ground;
+    grounded = g.links.grounded;
     nodes_once = g.links.nodes_once;
     entries_once = g.links.entries_once;
     caps = (λ k q. let a = g.links.caps k q in omega arith);
     filled = g.links.filled;
     top = g.links.top;
-    grows = (λ r. let a = g.links.grows r in let z : is (R l) (suc r) ≡ 0 = is_other (R l) (suc r) (λ e. clash r (g.links.ground l h f) e) in omega arith);
+    grows = (λ r. let a = g.links.grows r in let z : is (R l) (suc r) ≡ 0 = is_other (R l) (suc r) (λ e. clash r (g.links.grounded l h f) e) in omega arith);
   };
   exact = g.exact;
   weighs = g.weighs;

@@ -49,7 +49,7 @@ module _ (s : Settings) (z e : Summary) (r : Running) (d : ℕ) (hz : Exactly z 
     root_in = omega arith;
     root_top = refl;
     kid = (λ i c l f o. absurd (true≢false (sym (leafy i (only_zero i l)) ∙ f)));
-    ground = (λ i l f. refl);
+    grounded = (λ i l f. refl);
     nodes_once = (λ c. let a = below_one c in omega arith);
     entries_once = (λ c. let a = below_one c in let b : occurs c (0 ∷ []) ≡ is c 0 + 0 = occurs-cons c 0 [] in omega arith);
     caps = (λ i l. fits i (only_zero i l));

@@ -50,13 +50,13 @@ module _ {s : Settings} {A B : ℕ → Node} {n root es : ℕ} {R : ℕ → ℕ}
     root_in = g.root_in;
     root_top = b.parent_o root ∙ g.root_top;
     kid = new_kid;
-    ground = (λ k q u. g.ground k q (sym (b.leaf_o k) ∙ u));
+    grounded = (λ k q u. g.grounded k q (sym (b.leaf_o k) ∙ u));
     nodes_once = (λ c. ap (λ z. is c root + 0 + z) (sum_same (λ k. inner (A k) c) (λ k. inner (B k) c) n (λ k q. new-inner c k)) ∙ g.nodes_once c);
     entries_once = new_entries;
     caps = added_caps g b;
     filled = added_filled g b;
     top = g.top;
-    grows = (λ r. let a = g.grows r in let z : is (R l) (suc r) ≡ 0 = is_other (R l) (suc r) (λ e. clash r (g.ground l h f) e) in omega arith);
+    grows = (λ r. let a = g.grows r in let z : is (R l) (suc r) ≡ 0 = is_other (R l) (suc r) (λ e. clash r (g.grounded l h f) e) in omega arith);
   }
     where
       clash : (r : ℕ) → R l ≡ 0 → R l ≡ suc r → ⊥

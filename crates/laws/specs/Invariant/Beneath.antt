@@ -20,7 +20,7 @@ use Rattle.counting.specs.Totals.{sum_plus, sum-only, over-sum, sum-times}
 pub record Frame (A : ℕ → Node) (n root es : ℕ) (R : ℕ → ℕ) : Type 0 where
   pub root_in : root < n
   pub kid : (i c : ℕ) → i < n → (A i).leaf ≡ false → 0 < occurs c (A i).list → ((A c).parent ≡ some i) × (R i ≡ suc (R c))
-  pub ground : (i : ℕ) → i < n → (A i).leaf ≡ true → R i ≡ 0
+  pub grounded : (i : ℕ) → i < n → (A i).leaf ≡ true → R i ≡ 0
   pub nodes_once : (c : ℕ) → is c root + sum_to (λ i. inner (A i) c) n ≡ below c n
   pub entries_once : (c : ℕ) → sum_to (λ i. held (A i) c) n ≡ below c es
   pub top : (i : ℕ) → i < n → R i ≤ R root
@@ -29,7 +29,7 @@ pub frame-of : (s : Settings) (A : ℕ → Node) (n root es : ℕ) (R x y : ℕ 
 frame-of s A n root es R x y g = record {
   root_in = g.root_in;
   kid = g.kid;
-  ground = g.ground;
+  grounded = g.grounded;
   nodes_once = (λ c. let a = g.nodes_once c in omega arith);
   entries_once = g.entries_once;
   top = g.top;
@@ -183,7 +183,7 @@ module _ {A : ℕ → Node} {n root es : ℕ} {R : ℕ → ℕ} (g : Frame A n r
       go : (R k ≡ suc h) ⊎ (R k ≢ suc h) → ((A k).leaf ≡ true) ⊎ ((A k).leaf ≡ false)
           → only (f k + cond (A k).leaf 0 (over (deep A f h) (A k).list)) (suc h) (R k) + higher (f k) (suc h) (R k)
           ≡ higher (f k) h (R k) + cond (A k).leaf 0 (over (λ m. only (deep A f h m) h (R m)) (A k).list)
-      go (inl e) (inl u) = let z = g.ground k l u in absurd (omega arith)
+      go (inl e) (inl u) = let z = g.grounded k l u in absurd (omega arith)
       go (inl e) (inr u) =
           let a = only_at (f k + cond (A k).leaf 0 (over (deep A f h) (A k).list)) (suc h) (R k) e in
           let b = only_at (f k) (suc h) (R k) e in

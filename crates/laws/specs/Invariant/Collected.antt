@@ -24,7 +24,7 @@ module _ {A : ℕ → Node} {n root es : ℕ} {R : ℕ → ℕ} (g : Frame A n r
 
   pub under-leaf : (f : ℕ → ℕ) (m : ℕ) → m < n → (A m).leaf ≡ true → under f m ≡ f m
   unfolding under deep
-  under-leaf f m l u = ap (λ h. deep A f h m) (g.ground m l u)
+  under-leaf f m l u = ap (λ h. deep A f h m) (g.grounded m l u)
 
   pub under-inner : (f : ℕ → ℕ) (m : ℕ) → m < n → (A m).leaf ≡ false → under f m ≡ f m + over (under f) (A m).list
   unfolding under deep

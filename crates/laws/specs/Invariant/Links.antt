@@ -26,7 +26,7 @@ pub record Links (s : Settings) (A : ℕ → Node) (n root es : ℕ) (R : ℕ �
   pub root_in : root < n
   pub root_top : (A root).parent ≡ none
   pub kid : (i c : ℕ) → i < n → (A i).leaf ≡ false → 0 < occurs c (A i).list → ((A c).parent ≡ some i) × (R i ≡ suc (R c))
-  pub ground : (i : ℕ) → i < n → (A i).leaf ≡ true → R i ≡ 0
+  pub grounded : (i : ℕ) → i < n → (A i).leaf ≡ true → R i ≡ 0
   pub nodes_once : (c : ℕ) → is c root + o c + sum_to (λ i. inner (A i) c) n ≡ below c n
   pub entries_once : (c : ℕ) → sum_to (λ i. held (A i) c) n ≡ below c es
   pub caps : (i : ℕ) → i < n → length (A i).list ≤ cap s (A i).leaf + x i

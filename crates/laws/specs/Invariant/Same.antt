@@ -18,7 +18,7 @@ links_same s A B n root es R x y o hk hl hp g = record {
   root_in = g.root_in;
   root_top = hp root ∙ g.root_top;
   kid = (λ i c l f q. let r = g.kid i c l (sym (hl i) ∙ f) (subst (λ z. 0 < occurs c z) (hk i) q) in (hp c ∙ r.0, r.1));
-  ground = (λ i l f. g.ground i l (sym (hl i) ∙ f));
+  grounded = (λ i l f. g.grounded i l (sym (hl i) ∙ f));
   nodes_once = (λ c. ap (λ z. is c root + o c + z) (sum_same (λ i. inner (A i) c) (λ i. inner (B i) c) n (λ k _. ap (λ b. cond b 0 (occurs c (B k).list))
       (hl k) ∙ ap (λ z. cond (A k).leaf 0 (occurs c z)) (hk k))) ∙ g.nodes_once c);
   entries_once = (λ c. sum_same (λ i. held (A i) c) (λ i. held (B i) c) n (λ k _. ap (λ b. cond b (occurs c (B k).list) 0) (hl k)

@@ -132,7 +132,7 @@ module _ {s : Settings} (t : Tree) {R : ℕ → ℕ} (g : Links s (node_at t) (l
           ap (λ b. cond b (over (λ _. 1) (node_at t k).list) 0) f in
           let b = length_over (node_at t k).list in
           let c = single k l f in
-          let d = is_same 0 (R k) (sym (g.ground k l f)) in
+          let d = is_same 0 (R k) (sym (g.grounded k l f)) in
           omega arith
       go (inr f) =
           let a : cond (node_at t k).leaf (over (λ _. 1) (node_at t k).list) 0 ≡ 0 = ap (λ b. cond b (over (λ _. 1) (node_at t k).list) 0) f in

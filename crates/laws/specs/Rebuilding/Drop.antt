@@ -152,7 +152,7 @@ module _ {s : Settings} (u : Tree) (bs : List Bool) {R : ℕ → ℕ} (total : �
   frame₀ = record {
     root_in = g.root_in;
     kid = kid';
-    ground = (λ i l f. g.ground i l (sym (leaf-is i) ∙ f));
+    grounded = (λ i l f. g.grounded i l (sym (leaf-is i) ∙ f));
     nodes_once = (λ c. let a = g.nodes_once c in let b = nodes' c in omega arith);
     entries_once = entries';
     top = g.top;
@@ -209,7 +209,7 @@ module _ {s : Settings} (u : Tree) (bs : List Bool) {R : ℕ → ℕ} (total : �
       root_in = g.root_in;
       root_top = parent_is u.root ∙ g.root_top;
       kid = kid';
-      ground = (λ i l f. g.ground i l (sym (leaf-is i) ∙ f));
+      grounded = (λ i l f. g.grounded i l (sym (leaf-is i) ∙ f));
       nodes_once = (λ c. let a = g.nodes_once c in let b = nodes' c in omega arith);
       entries_once = entries';
       caps = caps';

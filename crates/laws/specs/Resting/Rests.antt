@@ -16,7 +16,6 @@ use Rattle.rules.specs.Rows.{inserted}
 use Rattle.feature.specs.Summaries.{blank}
 use Rattle.rules.specs.Tree.{Tree, entry_at}
 use Rattle.rules.specs.Check.{total_of}
-use Rattle.counting.specs.Count.{below}
 use Rattle.laws.specs.Check.Passing.{entries_sum}
 
 pub fresh_rests : {s : Settings} → Sized s → (h : Float) → AtRest s (fresh h) 0

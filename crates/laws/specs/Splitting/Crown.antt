@@ -80,7 +80,7 @@ module _ {s : Settings} {A B : ℕ → Node} {n i es : ℕ} {R : ℕ → ℕ} {j
     where
       go : (k ≡ n) ⊎ (k < n) → put R n (suc (R i)) k ≡ 0
       go (inl e) = absurd (not_both (B n).leaf (ap (λ z. (B z).leaf) (sym e) ∙ f) b.leaf_n)
-      go (inr e) = rank_of k e ∙ g.ground k e (sym (b.leaf_o k (lt_ne k n e)) ∙ f)
+      go (inr e) = rank_of k e ∙ g.grounded k e (sym (b.leaf_o k (lt_ne k n e)) ∙ f)
 
   crown_inner : (c k : ℕ) → k < n → inner (B k) c ≡ inner (A k) c
   unfolding inner
@@ -176,7 +176,7 @@ module _ {s : Settings} {A B : ℕ → Node} {n i es : ℕ} {R : ℕ → ℕ} {j
     root_in = omega arith;
     root_top = b.parent_n;
     kid = crown_kid;
-    ground = crown_ground;
+    grounded = crown_ground;
     nodes_once = crown_nodes;
     entries_once = crown_entries;
     caps = crown_caps;

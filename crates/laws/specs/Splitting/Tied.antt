@@ -93,7 +93,7 @@ module _ {s : Settings} {A B : ℕ → Node} {n root es : ℕ} {R : ℕ → ℕ}
     root_in = g.root_in;
     root_top = b.parent_o root ∙ g.root_top;
     kid = tied_kid;
-    ground = (λ k h f. g.ground k h (sym (b.leaf_o k) ∙ f));
+    grounded = (λ k h f. g.grounded k h (sym (b.leaf_o k) ∙ f));
     nodes_once = tied_nodes;
     entries_once = (λ c. sum_same (λ k. held (A k) c) (λ k. held (B k) c) n (λ k h. tied_held c k) ∙ g.entries_once c);
     caps = added_caps g b;

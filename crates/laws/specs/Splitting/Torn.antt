@@ -94,9 +94,9 @@ module _ {s : Settings} {A B : ℕ → Node} {n root es : ℕ} {R : ℕ → ℕ}
   torn_ground k h f = go (which k h)
     where
       go : (k ≡ i) ⊎ ((k ≡ n) ⊎ ((k < n) × (k ≢ i))) → put R n (R i) k ≡ 0
-      go (inl e) = ap (λ z. put R n (R i) z) e ∙ rank_at i l ∙ g.ground i l (sym leaf_i ∙ ap (λ z. (B z).leaf) (sym e) ∙ f)
-      go (inr (inl e)) = ap (λ z. put R n (R i) z) e ∙ put-at R n (R i) ∙ g.ground i l (sym p.leaf_n ∙ ap (λ z. (B z).leaf) (sym e) ∙ f)
-      go (inr (inr e)) = rank_at k e.0 ∙ g.ground k e.0 (sym (p.leaf_o k (lt_ne k n e.0)) ∙ f)
+      go (inl e) = ap (λ z. put R n (R i) z) e ∙ rank_at i l ∙ g.grounded i l (sym leaf_i ∙ ap (λ z. (B z).leaf) (sym e) ∙ f)
+      go (inr (inl e)) = ap (λ z. put R n (R i) z) e ∙ put-at R n (R i) ∙ g.grounded i l (sym p.leaf_n ∙ ap (λ z. (B z).leaf) (sym e) ∙ f)
+      go (inr (inr e)) = rank_at k e.0 ∙ g.grounded k e.0 (sym (p.leaf_o k (lt_ne k n e.0)) ∙ f)
 
   inner_o : (c k : ℕ) → k < n → k ≢ i → inner (B k) c ≡ inner (A k) c
   unfolding inner
@@ -244,7 +244,7 @@ module _ {s : Settings} {A B : ℕ → Node} {n root es : ℕ} {R : ℕ → ℕ}
     root_in = (let h = g.root_in in omega arith);
     root_top = torn_root;
     kid = torn_kid;
-    ground = torn_ground;
+    grounded = torn_ground;
     nodes_once = torn_nodes;
     entries_once = torn_entries;
     caps = torn_caps;

@@ -9,7 +9,7 @@ returns : tie.Need-returns-then-b-eq10
 returns c =
     let end_line = c.before.before.before.before.before.before.before.before in
     let then1 = end_line.before.before.before.before.before.before in
-    let start = then1.before.before.before.before.before.before in
+    let start = then1 in
     let a = start.args in
     let w = end_line.end_line.ensures in
     (line_reading w, newline_read a.run a.line.now a.floats.now a.links.now _ _ _ w a.line.now a.b then1.if-b-eq10.true)
@@ -17,7 +17,7 @@ returns c =
 returns-2 : tie.Need-returns
 returns-2 c =
     let else1 = c.before.before.before.before in
-    let start = else1.before.before.before.before.before.before in
+    let start = else1 in
     let a = start.args in
     let w = c.push.ensures in
     (w.reading a.floats.now a.links.now start.requires.1, w.reads a.floats.now a.links.now start.requires.1 else1.if-b-eq10.false)

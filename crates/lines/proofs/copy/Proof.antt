@@ -21,13 +21,13 @@ loop-holds c = (search rules, omega arith, omega arith, refl, copied_none c.args
 slice-write-line : tie.Need-bounds-line-long invariant-loop decreases-loop
 slice-write-line c =
     let turn = c.before.before.before.before in
-    let start = turn.before in
+    let start = turn in
     omega (arith, turn.loop-i.invariant.3, start.requires.0)
 
 loop-again : tie.Need-loop-i-preserved invariant-loop decreases-loop
 loop-again c =
     let turn = c.before.before.before.before in
-    let start = turn.before in
+    let start = turn in
     let loop = turn.loop-i in
     let inv = loop.invariant in (
       omega arith,

@@ -7,7 +7,7 @@ use Rattle.lines.proofs.end_line.Tie as tie
 
 read-first-requires : tie.Need-read_first-requires
 read-first-requires c κs =
-    let start = c.before.before.before.before.before.before.before.before.before.before in
+    let start = c in
     let a = start.args in (
       start.requires.0.floats_room,
       start.requires.0.links_room,
@@ -25,7 +25,7 @@ returns : tie.Need-returns-in-First
 returns c =
     let read_first = c.before.before.before.before in
     let enum_told = read_first.before.before.before.before in
-    let start = enum_told.before.before.before.before.before.before.before in
+    let start = enum_told in
     let a = start.args in
     stage_read a.run Stages.First enum_told.in-First.is a.floats.now a.links.now a.line.now read_first.read_first.ensures
 
@@ -39,7 +39,7 @@ returns-2 c =
 
 returns-3 : tie.Need-returns-in-Bad
 returns-3 c =
-    let start = c.before.before.before.before.before.before.before.before.before in
+    let start = c in
     let a = start.args in still_bad a.run _ c.bad.ensures _ a.floats.now a.links.now c.in-Bad.is
 
 pub end_line_spec : {M : Type 1} → statement M

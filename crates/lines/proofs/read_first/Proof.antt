@@ -8,7 +8,7 @@ use Rattle.lines.proofs.read_first.Tie as tie
 
 returns : tie.Need-returns-in_default
 returns c =
-    let start = c.before.before.before.before.before.before.before.before in
+    let start = c in
     let a = start.args in
     no_head a.run _ c.bad.ensures a.bytes.now a.floats.now a.links.now start.requires.2
     (first_none _ (sym c.first_line.ensures ∙ c.in_default.is))

@@ -14,13 +14,13 @@ use Rattle.lines.proofs.read_row.Tie as tie
 row-line-requires : tie.Need-row_line-requires
 unfolding Stands settings_of
 row-line-requires c κs =
-    let start = c.before.before.before.before.before.before.before in
+    let start = c in
     let few = (sizes_of start.requires.1.serving).dim_few in omega arith
 
 returns : tie.Need-returns-in_default
 returns c =
     let row_Line = c.before.before.before.before.before in
-    let start = row_Line.before.before.before.before.before.before.before.before in
+    let start = row_Line in
     let a = start.args in
     malformed_read a.run a.bytes.now a.floats.now a.links.now _ _ row_Line.row_line.ensures c.in_default.is
     _ c.bad.ensures
@@ -29,14 +29,14 @@ part-insert-end : tie.Need-slice_bounds-insert-end
 unfolding Stands settings_of
 part-insert-end c =
     let row_Line = c.before.before.before.before in
-    let start = row_Line.before.before.before.before.before.before.before.before in
+    let start = row_Line in
     let few = (sizes_of start.requires.1.serving).dim_few in omega (arith, row_Line.row_line.auto.row)
 
 insert-requires : tie.Need-insert-requires
 unfolding Stands settings_of
 insert-requires c κs =
     let row_Line = c.before.before.before.before.before.before.before.before.before in
-    let start = row_Line.before.before.before.before.before.before.before.before in
+    let start = row_Line in
     let few = (sizes_of start.requires.1.serving).dim_few in
     (start.requires.0, (start.requires.1, length-take-le _ _ (omega (arith, few, row_Line.row_line.auto.row)) ∙ sub-zero _))
 
@@ -45,7 +45,7 @@ returns-2 c =
     let insert = c.before.before.before.before.before.before.before.before in
     let enum_told = insert.before.before.before.before.before.before.before in
     let row_Line = enum_told.before.before.before in
-    let start = row_Line.before.before.before.before.before.before.before.before in
+    let start = row_Line in
     let a = start.args in
     insert.insert.ensures.reads a.bytes.now
     (row_says a.run a.bytes.now a.floats.now a.links.now _ _ row_Line.row_line.ensures enum_told.in-Row.is)

@@ -19,14 +19,14 @@ decreases-loop chunk line₀ floats₀ links₀ scratch₀ numbers₀ r₀ i₀ 
 
 loop-holds : tie.Need-loop-i-init invariant-loop decreases-loop
 loop-holds c =
-    let start = c.before.before.before.before.before.before in
+    let start = c in
     (search rules, refl, refl, refl, refl, refl, start.requires.1, reads_none _)
 
 piece-requires : tie.Need-piece-p-requires invariant-loop decreases-loop
 piece-requires c κs =
     let in-loop = c.before.before.before.before.before.before in
     let turn = in-loop.before in
-    let start = turn.before.before.before.before.before.before.before in
+    let start = turn in
     let inv = turn.loop-i.invariant in (
       rw (inv.1, inv.2, inv.3, inv.4, inv.5) start.requires.0,
       (
@@ -44,7 +44,7 @@ add-i c =
     let piece = c.before.before.before.before.before.before.before.before.before.before.before.before in
     let in-loop = piece.before.before.before.before.before.before.before in
     let turn = in-loop.before in
-    let start = turn.before.before.before.before.before.before.before in
+    let start = turn in
     let good = start.well_formed in omega (arith, piece.piece-p.ensures.0.1, rest_long start.args.chunk.now turn.loop-i.i, in-loop.loop-i-test.true)
 
 loop-less : tie.Need-loop-i-smaller invariant-loop decreases-loop
@@ -52,14 +52,14 @@ loop-less c =
     let piece = c.before.before.before.before.before.before.before.before.before.before.before.before in
     let in-loop = piece.before.before.before.before.before.before.before in
     let turn = in-loop.before in
-    let start = turn.before.before.before.before.before.before.before in
+    let start = turn in
     omega (arith, piece.piece-p.ensures.0.0, piece.piece-p.ensures.0.1, rest_long start.args.chunk.now turn.loop-i.i, in-loop.loop-i-test.true)
 
 loop-again : tie.Need-loop-i-preserved invariant-loop decreases-loop
 loop-again c =
     let piece = c.before.before.before.before.before.before.before.before.before.before.before.before in
     let turn = piece.before.before.before.before.before.before.before.before in
-    let start = turn.before.before.before.before.before.before.before in
+    let start = turn in
     let chunk = start.args.chunk.now in
     let new = piece.piece-p in
     let kept = new.auto in
@@ -93,7 +93,7 @@ same-length-5 c = c.loop-i.invariant.5
 
 returns : tie.Need-returns invariant-loop decreases-loop
 returns c =
-    let start = c.before.before.before.before.before.before.before.before in
+    let start = c in
     let loop = c.loop-i in
     let chunk = start.args.chunk.now in
     let end : length chunk ≤ loop.i = (let rest = c.loop-i-test.false in omega arith) in

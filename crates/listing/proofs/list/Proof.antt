@@ -7,14 +7,14 @@ use Rattle.listing.proofs.list.Tie as tie
 
 returns : tie.Need-returns-then-out-lt-PAGE
 returns c =
-    let start = c.before.before.before in
+    let start = c in
     list_refused start.args.input.now start.args.out.now (let short = c.if-out-lt-PAGE.true in omega arith)
 
 returns-2 : tie.Need-returns
 returns-2 c =
     let listed = c.before.before.before.before.before.before.before in
     let test = listed.before.before.before.before.before.before.before in
-    let start = test.before.before.before in
+    let start = test in
     list_written start.args.input.now start.args.out.now (let long = test.if-out-lt-PAGE.false in omega arith) listed.list_in-long.ensures
 
 pub list_spec : {M : Type 1} → statement M

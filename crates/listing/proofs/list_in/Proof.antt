@@ -8,13 +8,13 @@ use Rattle.listing.proofs.list_in.Tie as tie
 feed-requires : tie.Need-feed-r-requires
 feed-requires c κs =
     let begin = c.before.before.before.before.before in
-    let start = begin.before.before.before.before.before.before.before.before in
+    let start = begin in
     (start.requires.0, begin.begin.ensures.reading _ _)
 
 finish-requires : tie.Need-finish-end-requires
 finish-requires c κs =
     let feed = c.before.before.before.before.before.before.before.before.before.before.before.before.before.before.before.before in
-    let start = feed.before.before.before.before.before.before.before.before.before.before.before.before.before.before in
+    let start = feed in
     let new = feed.feed-r in
     let kept = new.auto in
     let pre = start.requires in

@@ -40,7 +40,7 @@ returns-3 c =
       ← list-len.ensures fs,
       le-ltb 0 list-len.result if1.false,
       ← is_leaf.ensures fs,
-      not-false is_leaf.result if2.false,
+      not-false is_leaf.result if2.false-raw,
       count_nodes_lem start.args.s start.args.n fs start.args.links.now,
       ne_eqb start.args.n.nodes 1 c.if-n-ne1.true,
     )
@@ -57,7 +57,7 @@ returns-4 c =
       ← list-len.ensures fs,
       le-ltb 0 list-len.result if1.false,
       ← is_leaf.ensures fs,
-      not-false is_leaf.result if2.false,
+      not-false is_leaf.result if2.false-raw,
       count_nodes_lem start.args.s start.args.n fs start.args.links.now,
       eq-eqb start.args.n.nodes 1 c.if-n-ne1.false,
       count_entries_lem start.args.s start.args.n fs start.args.links.now,

@@ -6,7 +6,6 @@ use mathlib.Core.List.{[]}
 use native.Mathlib.Omega.{arith}
 use borrow.Author.Rules.{rules}
 use lib.ListN.{length}
-use borrow.Author.Tests.{not-true, not-false}
 use Rattle.rules.specs.Lists.{every}
 use Rattle.arena.specs.Trees.{AnyLinks}
 use Rattle.scratch.specs.Flags.{alive_in}
@@ -44,13 +43,13 @@ loop-again c =
         omega arith,
         long,
         λ ls. rw w.all-is (flags_down _ loop.i loop.numbers _ loop.all _ (loop.invariant.2 ls) used.ensures.1
-            (used.ensures.0 ls) (not-true _ w.if-not-flag_used.true)),
+            (used.ensures.0 ls) w.if-not-flag_used.true),
       )
       | else-not-flag_used w ↦ (
         omega arith,
         long,
-        λ ls. rw w.1 (flags_up _ loop.i loop.numbers _ loop.all _ (loop.invariant.2 ls) used.ensures.1
-            (used.ensures.0 ls) (not-false _ w.if-not-flag_used.false)),
+        λ ls. rw w.all-is (flags_up _ loop.i loop.numbers _ loop.all _ (loop.invariant.2 ls) used.ensures.1
+            (used.ensures.0 ls) w.if-not-flag_used.false),
       )
     ]
 

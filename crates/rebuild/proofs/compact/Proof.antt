@@ -30,11 +30,11 @@ reinsert-requires c κs =
     let same = zero_same drop.result zeroed.with_merged.result zero in
     let left = drop.ensures.0 in
     let numbers = start.requires.0.2.numbers_in in
-    let kept = drop.auto.1.1.1.1.0 in (
+    let kept = drop.auto.numbers in (
       (
-        rw drop.auto.1.1.0
+        rw drop.auto.floats
             (floats_as a.s drop.result _ same (floats-kept a.s a.n drop.result a.numbers.now left start.requires.0.0)),
-        rw drop.auto.1.1.1.0
+        rw drop.auto.links
             (links_as a.s drop.result _ same (links_kept a.s a.n drop.result a.numbers.now left start.requires.0.1)),
       ),
       (
@@ -53,7 +53,7 @@ returns c =
     let drop = dropped.drop_merged-m in
     let a = (start dropped).args in
     let new = c.reinsert in (
-      (rw drop.auto.1.1.0 at new.ensures.0.0, rw drop.auto.1.1.1.0 at new.ensures.0.1),
+      (rw drop.auto.floats at new.ensures.0.0, rw drop.auto.links at new.ensures.0.1),
       placed-again a.s a.across drop.result _ _ drop.ensures.1 zeroed.with_merged.result (sym due.ensures ∙ test.true)
           zeroed.with_merged.ensures new.ensures.1,
     )

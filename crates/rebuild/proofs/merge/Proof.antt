@@ -14,14 +14,14 @@ tree c = tree_of c.args.s c.args.n c.args.floats.now c.args.links.now
 
 -- the start, from the siblings paired, and these, from the cousins paired
 abbrev start : tie.After-sibling_pairs-near → tie.Start
-start c = c.before.before.before.before.before.before.before.before.before
+start c = c.before.before.before.before.before.before.before
 
 abbrev siblings : tie.After-cousin_pairs-far → tie.After-sibling_pairs-near
-siblings c = c.before.before.before.before.before.before.before.before.before.before
+siblings c = c.before.before.before.before.before.before.before.before
 
 sibling-pairs-requires : tie.Need-sibling_pairs-near-requires
 sibling-pairs-requires c κs =
-    let start = c.before.before.before.before.before.before.before.before in
+    let start = c.before.before.before.before.before.before in
     ((start.requires.0.0, start.requires.0.1, tree_framed start.args.s (tree start) start.requires.1), pairs_room start.args.s start.requires.0.2)
 
 merge-by-requires : tie.Need-merge_by-requires
@@ -48,7 +48,7 @@ returns c =
 
 cousin-pairs-requires : tie.Need-cousin_pairs-far-requires
 cousin-pairs-requires c κs =
-    let paired = c.before.before.before.before.before.before.before.before.before in
+    let paired = c.before.before.before.before.before.before.before in
     let start = start paired in
     let near = paired.sibling_pairs-near in (
       (start.requires.0.0, start.requires.0.1, tree_framed start.args.s (tree start) start.requires.1),
@@ -66,7 +66,7 @@ merge-by-requires-2 c κs =
       (
         start.requires.0.0,
         start.requires.0.1,
-        rw (far.auto.costs, far.auto.numbers, near.auto.1.1.1.1.0, near.auto.1.1.1.1.1.0)
+        rw (far.auto.costs, far.auto.numbers, near.auto.costs, near.auto.numbers)
             start.requires.0.2,
       ),
       record {

@@ -53,9 +53,9 @@ compact-requires c κs =
     let same = merged-same a.n merged.merged.result done.result new in
     let room = start.requires.0.2 in (
       (
-        rw done.auto.1.1.0 (floats_as a.s a.n _ same start.requires.0.0),
+        rw done.auto.floats (floats_as a.s a.n _ same start.requires.0.0),
         links_as a.s a.n _ same start.requires.0.1,
-        rw (done.auto.1.1.1.0, done.auto.1.1.1.1.0) room,
+        rw (done.auto.scratch, done.auto.numbers) room,
       ),
       merges_compactable a.s a.n a.pairs _ done.result a.floats.now _ _ a.links.now start.requires.1 done.ensures
           merged.merged.result new,
@@ -69,7 +69,7 @@ returns-2 c =
     let a = (start all).args in
     let done = all.merge_cheapest-w in
     let new = c.compact in (
-      (rw done.auto.1.1.0 at new.ensures.0.0, new.ensures.0.1),
+      (rw done.auto.floats at new.ensures.0.0, new.ensures.0.1),
       new.ensures.1
           ∙ merged_some a.s a.n _ done.result a.floats.now _ _ a.links.now done.ensures merged.merged.result a.across
           merged.merged.ensures test.false,

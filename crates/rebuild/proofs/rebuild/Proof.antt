@@ -19,7 +19,7 @@ start c = c.before.before.before.before.before.before.before.before.before
 
 refold-requires : tie.Need-refold-requires
 refold-requires c κs =
-    let merged = c.before.before.before.before.before.before.before.before.before.before.before in
+    let merged = c.before.before.before.before.before.before.before.before.before.before in
     let start = start merged in
     let s = start.args.s in
     let done = merged.merge-m in
@@ -35,7 +35,7 @@ refold-requires c κs =
 returns : tie.Need-returns
 returns c =
     let refold = c.refold in
-    let merged = c.before.before.before.before.before.before.before.before.before.before.before.before.before.before.before.before.before
+    let merged = c.before.before.before.before.before.before.before.before.before.before.before.before.before.before.before.before
     in
     let start = start merged in
     let s = start.args.s in

@@ -54,7 +54,7 @@ rounds-requires c κs =
 
 refold-requires : tie.Need-refold-requires
 refold-requires c κs =
-    let rounds = c.before.before.before.before.before.before.before.before.before.before.before in
+    let rounds = c.before.before.before.before.before.before.before.before.before.before in
     let tests = tests rounds in
     let start = start tests in
     let a = start.args in
@@ -71,7 +71,7 @@ refold-requires c κs =
 returns-3 : tie.Need-returns
 returns-3 c =
     let refold = c.before.before.before.before in
-    let rounds = refold.before.before.before.before.before.before.before.before.before.before.before.before in
+    let rounds = refold.before.before.before.before.before.before.before.before.before.before.before in
     let tests = tests rounds in
     let start = start tests in
     let a = start.args in

@@ -41,12 +41,12 @@ here c =
 -- what is left after node i, whose parent p was found
 next : (c : tie.In-Node invariant-loop decreases-loop) → Next
     c.args.s
-    (tree c.before.before.before.before.before.before.before.before.before.before.before.before.before.before.before.before.before)
+    (tree c.before.before.before.before.before.before.before.before.before.before.before.before.before.before.before)
     c.requires.1.0
-    c.loop-left.i c.in-Node.p-1
+    c.loop-left.i c.in-Node.p
     c.loop-left.invariant.0
 next c =
-    let start = c.before.before.before.before.before.before.before.before.before.before.before.before.before.before.before.before.before in
+    let start = c.before.before.before.before.before.before.before.before.before.before.before.before.before.before.before in
     let loop = c.loop-left in
     back_next start.args.s (tree start) start.requires.1.0 _ loop.invariant.1
     (sym (c.parent.ensures start.args.floats.now) ∙ a_parent _ _ c.in-Node.is)
@@ -116,7 +116,7 @@ same-length-2 c =
 
 returns : tie.Need-returns-in_default invariant-loop decreases-loop
 returns c =
-    let start = c.before.before.before.before.before.before.before.before.before.before.before.before.before.before.before.before in
+    let start = c.before.before.before.before.before.before.before.before.before.before.before.before.before.before.before in
     let refold-node = c.refold_node in
     let l = c.loop-left in
     refold-node.ensures
@@ -126,7 +126,7 @@ returns c =
 
 before-requires : tie.Need-before-i-requires invariant-loop decreases-loop
 before-requires c κs =
-    let start = c.before.before.before.before.before.before.before.before.before.before.before.before.before.before.before.before.before in
+    let start = c.before.before.before.before.before.before.before.before.before.before.before.before.before.before.before in
     let loop = c.loop-left in
     let s = start.args.s in
     let n = start.args.n in
@@ -138,14 +138,14 @@ before-requires c κs =
       λ gs. (
         same-leaf s n ls _ p_in gs fs ∙ q.inner,
         subst (λ l. 0 < occurs loop.i l) (same_list s n ls _ p_in fs gs)
-            (subst (λ j. 0 < occurs j (node_at (tree start) c.in-Node.p-1).list) q.here
-            (get_occurs (node_at (tree start) c.in-Node.p-1).list q.k 0 q.place)),
+            (subst (λ j. 0 < occurs j (node_at (tree start) c.in-Node.p).list) q.here
+            (get_occurs (node_at (tree start) c.in-Node.p).list q.k 0 q.place)),
       ),
     )
 
 loop-again : tie.Need-loop-left-preserved invariant-loop decreases-loop
 loop-again c =
-    let start = c.before.before.before.before.before.before.before.before.before.before.before.before.before.before.before.before.before.before in
+    let start = c.before.before.before.before.before.before.before.before.before.before.before.before.before.before.before.before in
     let refold-node = c.refold_node in
     let l = c.loop-left in
     let q = next (c.before) in (

@@ -24,7 +24,7 @@ collect-requires c κs =
 
 replace-all-requires : tie.Need-replace_all-requires
 replace-all-requires c κs =
-    let none = c.before.before.before.before.before.before.before in
+    let none = c.before.before.before.before.before.before in
     let all = taken none in
     let start = start all in
     let a = start.args in
@@ -32,14 +32,14 @@ replace-all-requires c κs =
       (
         rw none.clear-m.auto.floats (floats-cleared a.s a.n _ counts start.requires.0.0),
         rw none.clear-m.auto.links (links_cleared a.s a.n _ counts start.requires.0.1),
-        rw all.collect-count.auto.1.1.1.1.0 start.requires.1.0.0,
+        rw all.collect-count.auto.scratch start.requires.1.0.0,
       ),
       all_replaceable a.s (tree start) start.requires.1.1 all.collect-count.ensures none.clear-m.ensures.1 start.requires.0.0.sized,
     )
 
 returns : tie.Need-returns
 returns c =
-    let none = c.before.before.before.before.before.before.before.before.before.before.before.before in
+    let none = c.before.before.before.before.before.before.before.before.before.before.before in
     let all = taken none in
     let start = start all in
     let new = c.replace_all in (

@@ -18,7 +18,7 @@ decimal-requires c κs = simp length-set (omega arith)
 
 newline-requires : tie.Need-newline-requires
 newline-requires c κs =
-    let start = c.before.before.before.before.before.before in
+    let start = c in
     let three = wrote_bad start.args.out.now (omega arith) in
     let e = c.decimal-end.ensures in
     omega (arith, wrote_long three, wrote_long e, e.end, tabbed-decimal start.args.n)
@@ -26,13 +26,13 @@ newline-requires c κs =
 same_length : tie.Need-shape_of-out
 same_length c =
     let decimal = c.before.before.before.before.before.before in
-    let start = decimal.before.before.before in
+    let start = decimal in
     wrote_long c.newline.ensures ∙ wrote_long decimal.decimal-end.ensures ∙ wrote_long (wrote_bad start.args.out.now (omega arith))
 
 returns : tie.Need-returns
 returns c =
     let decimal = c.before.before.before.before.before.before in
-    let start = decimal.before.before.before in
+    let start = decimal in
     wrote_is (bad_is start.args.n) (wrote_both (wrote_both (wrote_bad start.args.out.now (omega arith)) decimal.decimal-end.ensures)
     c.newline.ensures)
 

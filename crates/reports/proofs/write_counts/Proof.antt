@@ -10,7 +10,7 @@ write-decimal-requires c κs = omega (arith, decimal_short c.args.entries)
 
 hex-requires : tie.Need-hex-b-requires
 hex-requires c κs =
-    let start = c.before.before.before.before.before.before in
+    let start = c in
     omega (
       arith,
       c.write_decimal-a.ensures.1,

@@ -41,7 +41,7 @@ more : (c : tie.After-parent-above invariant-loop decreases-loop) → 0 < (turn 
 more c = c.loop-left-test.true
 
 over : (c : tie.After-parent-above invariant-loop decreases-loop) → fitting (start (turn c)).args.s (tree (turn c)) (turn c).loop-left.at ≡ false
-over c = sym (c.fits2.ensures (turn c).loop-left.floats) ∙ c.if-fits.false
+over c = sym (c.fits.ensures (turn c).loop-left.floats) ∙ c.if-fits.false
 
 steps : (c : tie.After-parent-above invariant-loop decreases-loop)
     → Step (start (turn c)).args.s (turn c).loop-left.left (turn c).loop-left.m (turn c).loop-left.at (tree (turn c))
@@ -71,10 +71,10 @@ fits-requires c κs = let loop = c.loop-left in (loop.invariant.3, loop.invarian
 
 returns : tie.Need-returns-then-fits invariant-loop decreases-loop
 returns c =
-    let t = c.before.before.before.before in
+    let t = c.before.before.before in
     let loop = t.loop-left in (
       (rw loop.invariant.0 at loop.invariant.2, rw loop.invariant.1 at loop.invariant.3),
-      sym (up_fits (start t).args.s loop.left loop.at (tree t) (sym (c.fits2.ensures loop.floats) ∙ c.if-fits.true)) ∙ loop.invariant.5,
+      sym (up_fits (start t).args.s loop.left loop.at (tree t) (sym (c.fits.ensures loop.floats) ∙ c.if-fits.true)) ∙ loop.invariant.5,
     )
 
 parent-requires : tie.Need-parent-above-requires invariant-loop decreases-loop
@@ -89,7 +89,7 @@ split-requires c κs =
 crown-requires : tie.Need-crown-requires invariant-loop decreases-loop
 crown-requires c κs =
     let none = c.before.before in
-    let split = none.before.before.before.before.before.before in
+    let split = none.before.before.before.before.before in
     let p = read split in
     let loop = (turn p).loop-left in
     let s = (start (turn p)).args.s in
@@ -106,20 +106,20 @@ crown-requires c κs =
 same-length-3 : tie.Need-shape_of-floats-in_default invariant-loop decreases-loop
 same-length-3 c =
     let crown = c.before.before.before.before in
-    let split = crown.before.before.before.before.before.before.before.before.before in
+    let split = crown.before.before.before.before.before.before.before.before in
     crown.crown.auto.floats ∙ split.split-m.auto.floats ∙ (turn (read split)).loop-left.invariant.0
 
 same-length-4 : tie.Need-shape_of-links-in_default invariant-loop decreases-loop
 same-length-4 c =
     let crown = c.before.before.before.before in
-    let split = crown.before.before.before.before.before.before.before.before.before in
+    let split = crown.before.before.before.before.before.before.before.before in
     crown.crown.auto.links ∙ split.split-m.auto.links ∙ (turn (read split)).loop-left.invariant.1
 
 returns-2 : tie.Need-returns-in_default invariant-loop decreases-loop
 returns-2 c =
     let crown = c.before.before.before.before in
     let none = crown.before.before.before in
-    let split = none.before.before.before.before.before.before in
+    let split = none.before.before.before.before.before in
     let p = read split in
     let t = turn p in
     let loop = t.loop-left in
@@ -141,8 +141,8 @@ returns-2 c =
 
 append-requires : tie.Need-append-requires invariant-loop decreases-loop
 append-requires c κs =
-    let some = c.before.before in
-    let split = some.before.before.before.before.before.before in
+    let some = c.before in
+    let split = some.before.before.before.before.before in
     let p = read split in
     let loop = (turn p).loop-left in
     let s = (start (turn p)).args.s in
@@ -158,8 +158,8 @@ append-requires c κs =
 loop-again : tie.Need-loop-left-preserved invariant-loop decreases-loop
 loop-again c =
     let append = c.before.before in
-    let some = append.before.before.before in
-    let split = some.before.before.before.before.before.before in
+    let some = append.before.before in
+    let split = some.before.before.before.before.before in
     let p = read split in
     let t = turn p in
     let loop = t.loop-left in

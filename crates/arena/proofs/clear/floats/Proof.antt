@@ -4,7 +4,7 @@ use mathlib.Core.Path.{◌≡◌}
 use native.Mathlib.Omega.{arith}
 use borrow.Author.Rules.{rules}
 use borrow.Rule.Slice.PartMut.{put_mid, same_len_mid}
-use lib.ListN.{length, take, length-take, length-drop}
+use lib.ListN.{length, length-take, length-drop}
 use Rattle.arena.specs.Trees.{Rooms, slots_room}
 use Rattle.stretch.specs.Stretches.{put_stretch}
 use Rattle.arena.specs.Tidied.{floats_tidied}

@@ -20,7 +20,8 @@ returns-3 c = rw (c.with_values.ensures, c.wide32.ensures, c.number-number.ensur
 returns-4 : tie.Need-returns-in-Shape
 unfolding refusal_numbers values_of number_of
 returns-4 c =
-    rw (c.with_values-in-Shape.ensures, c.wide-in-Shape.ensures, c.wide.ensures, c.number-number.ensures, c.in-Shape.is)
+    let shape = c in
+    rw (c.with_values-in-Shape.ensures, c.wide-in-Shape.ensures, c.wide.ensures, shape.number-number.ensures, shape.in-Shape.is)
 
 returns-5 : tie.Need-returns-in-Empty
 unfolding refusal_numbers values_of number_of

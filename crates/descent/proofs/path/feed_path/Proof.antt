@@ -42,18 +42,18 @@ parent-requires : tie.Need-parent-requires invariant-loop decreases-loop
 parent-requires c κs = let at = c.before.before.before.before.before in ((start at).requires.0.1, at.loop-left.invariant.0)
 
 same_length : tie.Need-shape_of-floats-in_default invariant-loop decreases-loop
-same_length c = c.feed.auto.floats ∙ (turn c.before.before).loop-left.invariant.1
+same_length c = c.feed.auto.floats ∙ (turn c.before).loop-left.invariant.1
 
 returns : tie.Need-returns-in_default invariant-loop decreases-loop
 returns c =
-    let loop = (turn c.before.before).loop-left in
+    let loop = (turn c.before).loop-left in
     let top = sym (no_parent_lem _ c.in_default.is) ∙ c.parent.ensures loop.floats in
     let fed = c.feed.ensures _ in
     sym (up_top _ (loop.left - 1) _) ∙ up_on _ loop.left loop.i _ _ none (omega arith) fed top ∙ loop.invariant.2
 
 loop-again : tie.Need-loop-left-preserved invariant-loop decreases-loop
 loop-again c =
-    let parent = c.before.before.before in
+    let parent = c.before in
     let loop = (turn parent).loop-left in
     let old = start (turn parent) in
     let feed = parent.feed in

@@ -7,7 +7,7 @@ use Rattle.export.proofs.change.cftree_create.Tie as tie
 
 returns : tie.Need-returns
 returns c =
-    let call = c.before.before.before.before.before in
+    let call = c in
     rw (sym call.head_of-h.ensures) (made-numbers c.outcome_numbers.ensures call.create-outcome.ensures)
 
 pub cftree_create_spec : {M : Type 1} → statement M

@@ -7,7 +7,7 @@ use Rattle.export.proofs.change.cftree_insert_row.Tie as tie
 
 returns : tie.Need-returns
 returns c =
-    let call = c.before.before.before.before.before.before.before.before.before in
+    let call = c in
     rw (sym call.head_of-h.ensures) (left-numbers c.outcome_numbers.ensures call.insert_row-outcome.ensures)
 
 pub cftree_insert_row_spec : {M : Type 1} → statement M

@@ -7,7 +7,7 @@ use Rattle.export.proofs.look.cftree_route.Tie as tie
 
 returns : tie.Need-returns
 returns c =
-    let call = c.before.before.before in
+    let call = c in
     rw (sym call.head_of-h.ensures) (written-numbers c.answer_numbers.ensures call.route-answer.ensures)
 
 pub cftree_route_spec : {M : Type 1} → statement M

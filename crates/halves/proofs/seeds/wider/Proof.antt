@@ -2,7 +2,6 @@
 use Prim.Native.Nat.{◌+◌, ◌-◌, ◌≤◌, ◌<◌}
 use mathlib.Core.Path.{◌≡◌, refl, sym, ◌∙◌}
 use mathlib.Core.List.{map}
-use mathlib.Core.Logic.{⊎_elim}
 use native.Mathlib.Omega.{arith}
 use borrow.Author.Rules.{rules}
 use lib.ListN.{length, get_or, drop}
@@ -13,6 +12,7 @@ use Rattle.arena.specs.Trees.{AnyLinks, ChildrenIn}
 use Rattle.halves.specs.Seeds.{seeds_of, farther_yes, farther_no, with_turn, with_end}
 use Rattle.halves.proofs.seeds.wider.Statement.{statement}
 use Rattle.halves.proofs.seeds.wider.Tie as tie
+use Rattle.halves.proofs.seeds.wider.Lts.{then-most-d, else-most-d}
 
 abbrev invariant-loop : tie.invariant-loop-j
 invariant-loop s n floats leaf list k dist c a₀ b₀ most₀ j₀ a b most j =
@@ -47,24 +47,24 @@ loop-again c =
     let taken = c.loop-j-test.true in
     let d = c.between-d in
     let u = seeds loop.a loop.b loop.most in
-    ⊎_elim
-    (λ w. (
-      omega arith,
-      rw w.1 start.requires.2,
-      rw w.2 taken,
-      λ ls. let f = child (tree_of a.s a.n a.floats.now ls) a.leaf in rw (w.1, w.2, w.3)
-          (with_turn a.s f a.list.now a.k _ loop.j u taken (d.ensures ls)
-          (farther_yes loop.a loop.b loop.most a.k loop.j d.result w.0.true) ∙ loop.invariant.3 ls),
-    ))
-    (λ w. (
-      omega arith,
-      rw w.1 loop.invariant.1,
-      rw w.2 loop.invariant.2,
-      λ ls. let f = child (tree_of a.s a.n a.floats.now ls) a.leaf in rw (w.1, w.2, w.3)
-          (with_turn a.s f a.list.now a.k _ loop.j u taken (d.ensures ls)
-          (farther_no loop.a loop.b loop.most a.k loop.j d.result w.0.false) ∙ loop.invariant.3 ls),
-    ))
-    c.if-most-d.branch
+    elim c.if-most-d.branch [
+      | then-most-d w ↦ (
+        omega arith,
+        rw w.a-is start.requires.2,
+        rw w.b-is taken,
+        λ ls. let f = child (tree_of a.s a.n a.floats.now ls) a.leaf in rw (w.a-is, w.b-is, w.most-is)
+            (with_turn a.s f a.list.now a.k _ loop.j u taken (d.ensures ls)
+            (farther_yes loop.a loop.b loop.most a.k loop.j d.result w.if-most-d.true) ∙ loop.invariant.3 ls),
+      )
+      | else-most-d w ↦ (
+        omega arith,
+        rw w.a-is loop.invariant.1,
+        rw w.b-is loop.invariant.2,
+        λ ls. let f = child (tree_of a.s a.n a.floats.now ls) a.leaf in rw (w.a-is, w.b-is, w.most-is)
+            (with_turn a.s f a.list.now a.k _ loop.j u taken (d.ensures ls)
+            (farther_no loop.a loop.b loop.most a.k loop.j d.result w.if-most-d.false) ∙ loop.invariant.3 ls),
+      )
+    ]
 
 returns : tie.Need-returns invariant-loop decreases-loop
 unfolding seeds_of

@@ -6,7 +6,7 @@ use Rattle.listing.proofs.finish.finish.Tie as tie
 
 returns : tie.Need-returns
 returns c =
-    let last_Line = c.before.before.before.before.before.before.before.before.before.before.before.before.before.before in
+    let last_Line = c in
     let last = last_Line.last_line-last.ensures in
     (wrote_is last.1 c.print-long.ensures, record { stands = last.0; lists = last.1 })
 

@@ -7,14 +7,14 @@ use Rattle.listing.proofs.finish.last_line.Tie as tie
 
 returns : tie.Need-returns-then-run-eq0
 returns c =
-    let start = c.before.before.before.before.before.before.before in
+    let start = c in
     let a = start.args in (start.requires.1.stands, no_end a.run a.line.now a.floats.now a.links.now c.if-run-eq0.true)
 
 returns-2 : tie.Need-returns
 returns-2 c =
     let end_line = c.before.before.before.before.before.before.before.before in
     let else1 = end_line.before.before.before.before.before in
-    let start = else1.before.before.before.before.before.before.before in
+    let start = else1 in
     let a = start.args in
     let w = end_line.end_line.ensures in
     let short = start.requires.1.short in

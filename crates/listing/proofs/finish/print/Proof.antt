@@ -9,13 +9,13 @@ use Rattle.listing.proofs.finish.print.Tie as tie
 
 sub-write-report : tie.Need-overflow_sub-run
 sub-write-report c =
-    let start = c.before.before.before.before.before.before in
+    let start = c in
     let a = start.args in
     omega (arith, grown-total (rows_stand a.run a.floats.now a.links.now c.in-Rows.is start.requires.2))
 
 write-report-requires : tie.Need-write_report-requires
 write-report-requires c κs =
-    let start = c.before.before.before.before.before.before.before in
+    let start = c in
     let a = start.args in (
       reportable (rows_stand a.run a.floats.now a.links.now c.in-Rows.is start.requires.2) start.requires.0,
       start.requires.1,
@@ -24,7 +24,7 @@ write-report-requires c κs =
 returns : tie.Need-returns-in-First
 returns c =
     let enum_told = c.before.before.before.before in
-    let start = enum_told.before.before.before.before.before in
+    let start = enum_told in
     let a = start.args in wrote_is (first_end a.run a.floats.now a.links.now enum_told.in-First.is start.requires.2)
     c.write_bad.ensures
 

@@ -18,13 +18,13 @@ number-requires c κs =
 
 keep-entries-requires : tie.Need-keep_entries-requires
 keep-entries-requires c κs =
-    let start = c.before.before.before.before.before.before.before.before.before in
+    let start = c.before.before.before.before.before.before.before.before in
     let number = c.number-kept in
     ((start.requires.0.0, rw number.auto.numbers start.requires.0.2), numbered_own start.args.numbers.now _ _ number.ensures.1)
 
 keep-lists-requires : tie.Need-keep_lists-requires
 keep-lists-requires c κs =
-    let start = c.before.before.before.before.before.before.before.before.before.before.before.before.before.before in
+    let start = c.before.before.before.before.before.before.before.before.before.before.before.before in
     let number = c.number-kept in (
       (start.requires.0.1, rw number.auto.numbers start.requires.0.2, λ gs. leaves_same _ _ _ start.args.floats.now gs _ refl refl start.requires.1),
       numbered_own start.args.numbers.now _ _ number.ensures.1,
@@ -32,18 +32,15 @@ keep-lists-requires c κs =
 
 returns : tie.Need-returns
 returns c =
-    let kept = c.before.before.before.before.before.before.before.before in
-    let numbered = kept.before.before.before.before.before in
-    let start = numbered.before.before.before.before.before in
-    let number = numbered.number-kept in
-    let s = start.args.s in
-    let n = start.args.n in
-    let ns = start.args.numbers.now in
+    let number = c.number-kept in
+    let s = c.args.s in
+    let n = c.args.n in
+    let ns = c.args.numbers.now in
     let bs = alive_in ns n.entries in
     let same = numbered_alive ns number.new.numbers n.entries number.ensures.1 in
     let is : c.with_entries.result ≡ count_entries (count_up bs) n = c.with_entries.ensures ∙ ap (λ k. count_entries k n) number.ensures.0 in (
       is,
-      dropped-is s n _ bs _ start.args.floats.now _ start.args.links.now _ same is kept.keep_entries.ensures
+      dropped-is s n _ bs _ c.args.floats.now _ c.args.links.now _ same is c.keep_entries.ensures
           c.keep_lists.ensures,
     )
 

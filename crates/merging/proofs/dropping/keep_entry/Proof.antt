@@ -25,7 +25,7 @@ returns c =
 put-requires : tie.Need-put-requires
 unfolding word_at renumber
 put-requires c κs =
-    let start = c.before.before.before.before.before.before.before in
+    let start = c.before.before.before.before.before.before in
     let w = word_there _ start.args.numbers.now start.args.n.entries start.args.i start.requires.1 start.requires.0.2
     c.if-to-eq0.false in (
       start.requires.0.0,
@@ -37,7 +37,7 @@ put-requires c κs =
 returns-2 : tie.Need-returns
 unfolding word_at
 returns-2 c =
-    let start = c.before.before.before.before.before.before.before.before.before.before in
+    let start = c.before.before.before.before.before.before.before.before.before in
     let test = c.if-to-eq0.false in
     let summary = c.summary-c in
     let w = word_there _ start.args.numbers.now start.args.n.entries start.args.i start.requires.1 start.requires.0.2 test in

@@ -20,7 +20,7 @@ returns c = λ fs. pruned-inner _ _ _ (sym (c.is_leaf.ensures fs) ∙ not-true _
 
 kept-requires : tie.Need-kept-few-requires
 kept-requires c κs =
-    let start = c.before.before.before.before.before.before.before in
+    let start = c.before.before.before.before.before in
     let s = start.args.s in
     let n = start.args.n in
     let i = start.args.i in
@@ -34,7 +34,7 @@ kept-requires c κs =
 
 set-list-requires : tie.Need-set_list-requires
 set-list-requires c κs =
-    let start = c.before.before.before.before.before.before.before.before.before.before.before in
+    let start = c.before.before.before.before.before.before.before.before.before in
     let list = c.list in
     let kept = c.kept-few in
     let s = start.args.s in
@@ -47,7 +47,7 @@ set-list-requires c κs =
 
 returns-2 : tie.Need-returns
 returns-2 c =
-    let start = c.before.before.before.before.before.before.before.before.before.before.before.before.before.before in
+    let start = c.before.before.before.before.before.before.before.before.before.before.before.before in
     let is_leaf = c.is_leaf in
     let test = c.if-not-is_leaf.false-raw in
     let list = c.list in

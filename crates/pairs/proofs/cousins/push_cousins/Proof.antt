@@ -72,7 +72,7 @@ push-leaves-requires c κs =
         start.requires.0.1,
         leaves_of start.args.s start.args.n start.args.floats.now start.args.links.now _ start.requires.0.2
             (children c.before.before.before.before)
-            (sym (c.all_leaves_lem.ensures start.args.floats.now) ∙ c.if-all_leaves.true),
+            (sym (c.all_leaves.ensures start.args.floats.now) ∙ c.if-all_leaves.true),
       ),
       subst (λ k. Room (start.args.count + k) (length start.args.costs.now) (length start.args.numbers.now))
           (sym (under-inner (tree start) start.args.i (is-inner c.before.before.before.before) all) ∙ ap (λ l. length (beneath (tree start) l))

@@ -72,7 +72,7 @@ push-leaf-requires c κs =
     let more = left c.before.before in (
       start.requires.0,
       (
-        subst (ChildrenIn start.args.n true) (sym (c.list.ensures start.args.floats.now))
+        subst (ChildrenIn start.args.n true) (sym (c.list-list.ensures start.args.floats.now))
             (start.requires.0.2.entries loop.k more'.true),
         record {
           floats_in_lem = omega (arith, inv.0, inv.2, start.requires.1.floats_in_lem);

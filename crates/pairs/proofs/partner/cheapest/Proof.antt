@@ -2,7 +2,6 @@
 use Prim.Native.Nat.{ℕ, ◌+◌, ◌-◌, ◌≤◌}
 use mathlib.Core.Path.{◌≡◌, refl, sym, ap, ◌∙◌}
 use mathlib.Core.List.{List}
-use mathlib.Core.Logic.{⊎_elim}
 use native.Mathlib.Omega.{arith}
 use borrow.Author.Rules.{rules}
 use lib.ListN.{length, get_or, drop}
@@ -14,6 +13,7 @@ use Rattle.rules.specs.Pairs.{cost_of, cheaper, partner}
 use Rattle.pairs.specs.Partners.{Inside, partner_of, inside_cheaper, partner_turn, partner_skip, partner_end}
 use Rattle.pairs.proofs.partner.cheapest.Statement.{statement}
 use Rattle.pairs.proofs.partner.cheapest.Tie as tie
+use Rattle.pairs.proofs.partner.cheapest.Lts.{then-j-i, else-j-i}
 
 abbrev invariant-loop : tie.invariant-loop-k
 invariant-loop s n floats list i best₀ k₀ best k =
@@ -45,22 +45,22 @@ loop-again c =
     let list = start.args.list.now in
     let f : List ℕ → ℕ → Float = λ ls. cost_of s (tree_of s n start.args.floats.now ls) start.args.i in
     let more = c.loop-k-test.true in
-    ⊎_elim
-    (λ w. (
-      omega arith,
-      rw (w.4, w.3.ensures) (inside_cheaper n.entries (partner_of l.best) _ _ l.invariant.1 (start.requires.1 l.k more)),
-      λ ls. partner_turn (f ls) start.args.i (partner_of l.best) list l.k (partner_of c.if-j-i.best) more w.0.true
-          (ap partner_of w.4 ∙ w.3.ensures
-          ∙ ap (cheaper (partner_of l.best) (get_or list l.k 0)) (w.2.ensures ∙ ap ranked (w.1.ensures ls)))
-          ∙ l.invariant.2 ls,
-    ))
-    (λ w. (
-      omega arith,
-      rw w.1 l.invariant.1,
-      λ ls. ap (λ b. partner (f ls) start.args.i (partner_of b) (drop (l.k + 1) list)) w.1
-          ∙ partner_skip (f ls) start.args.i (partner_of l.best) list l.k more w.0.false ∙ l.invariant.2 ls,
-    ))
-    c.if-j-i.branch
+    elim c.if-j-i.branch [
+      | then-j-i w ↦ (
+        omega arith,
+        rw (w.best-is, w.cheaper-best.ensures) (inside_cheaper n.entries (partner_of l.best) _ _ l.invariant.1 (start.requires.1 l.k more)),
+        λ ls. partner_turn (f ls) start.args.i (partner_of l.best) list l.k (partner_of c.if-j-i.best) more w.if-j-i.true
+            (ap partner_of w.best-is ∙ w.cheaper-best.ensures
+            ∙ ap (cheaper (partner_of l.best) (get_or list l.k 0)) (w.rank.ensures ∙ ap ranked (w.merge_cost-cost.ensures ls)))
+            ∙ l.invariant.2 ls,
+      )
+      | else-j-i w ↦ (
+        omega arith,
+        rw w.best-is l.invariant.1,
+        λ ls. ap (λ b. partner (f ls) start.args.i (partner_of b) (drop (l.k + 1) list)) w.best-is
+            ∙ partner_skip (f ls) start.args.i (partner_of l.best) list l.k more w.if-j-i.false ∙ l.invariant.2 ls,
+      )
+    ]
 
 returns : tie.Need-returns invariant-loop decreases-loop
 returns c =

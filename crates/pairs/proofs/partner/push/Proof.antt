@@ -28,10 +28,8 @@ put-requires c κs =
 
 returns-2 : tie.Need-returns
 returns-2 c =
-    let start = c.before.before.before.before.before.before.before.before.before.before in
-    let told = c.before.before.before.before.put.new.p in
-    let put = c.put in (
-      pair-pushed start.args.count start.args.i _ _ (partner_of start.args.p) (partner_named start.args.p _ _ told.given.1) put.ensures,
+    let start = c.before.before.before.before.before.before.before.before.before.before in (
+      pair-pushed start.args.count start.args.i _ _ (partner_of start.args.p) (partner_named start.args.p _ _ c.in-Named.is) c.put.ensures,
       omega arith,
     )
 

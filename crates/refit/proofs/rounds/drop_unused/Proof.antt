@@ -13,11 +13,11 @@ abbrev start : tie.After-drop_merged-m → tie.Start
 start c = c.before.before.before.before.before.before.before.before
 
 abbrev dropping : tie.After-enough → tie.After-drop_merged-m
-dropping c = c.before.before.before.before.before.before.before.before
+dropping c = c.before.before.before.before.before.before.before
 
 enough-requires : tie.Need-enough-requires
 enough-requires c κs =
-    let dropped = c.before.before.before.before.before.before.before in
+    let dropped = c.before.before.before.before.before.before in
     let start = start dropped in
     let a = start.args in
     let drop = dropped.drop_merged-m in
@@ -43,10 +43,10 @@ reinsert-requires c κs =
     let a = start.args in
     let drop = dropped.drop_merged-m in
     let numbers = start.requires.0.2.numbers_in in
-    let kept = drop.auto.1.1.1.1.0 in (
+    let kept = drop.auto.numbers in (
       (
-        rw drop.auto.1.1.0 (floats-kept a.s a.n drop.result a.numbers.now drop.ensures.0 start.requires.0.0),
-        rw drop.auto.1.1.1.0 (links_kept a.s a.n drop.result a.numbers.now drop.ensures.0 start.requires.0.1),
+        rw drop.auto.floats (floats-kept a.s a.n drop.result a.numbers.now drop.ensures.0 start.requires.0.0),
+        rw drop.auto.links (links_kept a.s a.n drop.result a.numbers.now drop.ensures.0 start.requires.0.1),
       ),
       ((start.requires.0.2.floats_in_lem, omega arith), subst (Reinsertable a.s) (sym drop.ensures.1) start.requires.1.1),
     )
@@ -59,7 +59,7 @@ returns-2 c =
     let a = (start dropped).args in
     let drop = dropped.drop_merged-m in
     let new = again.reinsert-counters in (
-      (rw drop.auto.1.1.0 at new.ensures.0.0, rw drop.auto.1.1.1.0 at new.ensures.0.1),
+      (rw drop.auto.floats at new.ensures.0.0, rw drop.auto.links at new.ensures.0.1),
       placed a.s a.done drop.ensures.1 (test.enough.ensures _) test.if-enough.false new.ensures.1,
     )
 

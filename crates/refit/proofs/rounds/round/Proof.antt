@@ -10,7 +10,7 @@ use Rattle.refit.proofs.rounds.round.Tie as tie
 
 -- the start, from the entries made anew
 abbrev start : tie.After-reaccumulate → tie.Start
-start c = c.before.before.before.before.before.before.before.before.before.before
+start c = c.before.before.before.before.before.before.before.before.before
 
 -- the tree as it is lent
 abbrev tree : tie.Start → Tree

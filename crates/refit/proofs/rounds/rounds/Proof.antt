@@ -56,7 +56,7 @@ returns c =
     let at = turn round in
     let start = start at in
     let a = start.args in
-    let inv = at.loop-done.inv in
+    let inv = at.loop-done.invariant in
     let new = round.round-turn in
     let more = round.loop-done-test.true in (
       (rw inv.2 at new.ensures.0.0, rw inv.3 at new.ensures.0.1),
@@ -69,7 +69,7 @@ loop-again c =
     let at = turn round in
     let start = start at in
     let a = start.args in
-    let inv = at.loop-done.inv in
+    let inv = at.loop-done.invariant in
     let new = round.round-turn in
     let more = round.loop-done-test.true in (
       rw new.auto.floats new.ensures.0.0,

@@ -15,8 +15,8 @@ use Rattle.bounds.specs.Sure.{node_listed}
 use Rattle.bounds.specs.Framed.{frame_children}
 use Rattle.refold.specs.Walk.{last_under}
 use Rattle.refold.specs.Links.{listed_once, one_place, before_first, before_later}
-use Rattle.refold.proofs.walk.Statement.{statement}
-use Rattle.refold.proofs.walk.Tie as tie
+use Rattle.refold.proofs.walk.before.Statement.{statement}
+use Rattle.refold.proofs.walk.before.Tie as tie
 
 abbrev tree : tie.Start → List Float → Tree
 tree c fs = tree_of c.args.s c.args.n fs c.args.links.now
@@ -30,13 +30,13 @@ one c fs k h e =
     let (gs, u) = start.requires.0.1 in
     let few = listed_once (tree start gs) u.framed start.args.p start.args.i
     (rw (count_nodes_lem start.args.s start.args.n gs start.args.links.now) start.requires.0.2) (start.requires.1 gs).0 in
-    let own = c.list.ensures fs in
-    one_place c.list.result.now c.place-k.result k start.args.i
-    (subst (λ l. occurs start.args.i l ≤ 1) (sym (c.list.ensures gs)) few)
+    let own = c.list-list.ensures fs in
+    one_place c.list-list.result.now c.place-k.result k start.args.i
+    (subst (λ l. occurs start.args.i l ≤ 1) (sym (c.list-list.ensures gs)) few)
     c.place-k.ensures.0 (subst (λ l. k < length l) (sym own) h) c.place-k.ensures.1 (subst (λ l. get_or l k 0 ≡ start.args.i) (sym own) e)
 
 place-requires : tie.Need-place-k-requires
-place-requires c κs = let (gs, u) = c.requires.0.1 in subst (λ l. 0 < occurs c.args.i l) (sym (c.list.ensures gs))
+place-requires c κs = let (gs, u) = c.requires.0.1 in subst (λ l. 0 < occurs c.args.i l) (sym (c.list-list.ensures gs))
     (c.requires.1 gs).1
 
 returns : tie.Need-returns-then-k-eq0
@@ -54,7 +54,7 @@ last-requires c κs =
       start.requires.0.0,
       start.requires.0.1,
       node_listed start.args.n _
-          (subst (ChildrenIn start.args.n false) (sym (c.list.ensures gs))
+          (subst (ChildrenIn start.args.n false) (sym (c.list-list.ensures gs))
           (frame_children start.args.s start.args.n gs start.args.links.now u.framed start.args.p start.requires.0.2 false
           (start.requires.1 gs).0))
           (c.place-k.result - 1) (omega (arith, c.place-k.ensures.0)),
@@ -63,7 +63,7 @@ last-requires c κs =
 returns-2 : tie.Need-returns
 returns-2 c =
     let start = c.before.before.before.before.before.before in
-    let list = c.list in
+    let list = c.list-list in
     λ fs k h e.
     let t = tree start fs in
     c.last.ensures fs

@@ -184,20 +184,20 @@ loop-again c =
     let start = start at in
     let a = start.args in
     let t = tree start in
-    -- in either branch w .2 is the call, and w.5 to w.8 say what scratch, stack, high and count have become
+    -- in either branch w has the call, and what scratch, stack, high and count have become
     elim c.if-is_leaf.branch [
       | then-is_leaf w ↦ (
-        ap length w.scratch-is ∙ w.copy_entries-count.auto.1.1.1.1.0 ∙ at.loop-left.invariant.0,
+        ap length w.scratch-is ∙ w.copy_entries-count.auto.scratch ∙ at.loop-left.invariant.0,
         ap length w.stack-is ∙ at.loop-left.invariant.1,
         collect_leaf a.s t at.loop-left.left (done at) (top at) (others at) (opened at (some read)) (more read) (kind read w.if-is_leaf.true)
             (ap₂ (slots_in a.s) w.scratch-is w.count-is ∙ w.copy_entries-count.ensures.1 a.links.now ∙ ap (λ l. done at ++ map (entry_at t) l) (list read))
             (ap₂ waiting w.stack-is w.high-is),
       )
       | else-is_leaf w ↦ (
-        ap length w.5 ∙ at.loop-left.invariant.0,
-        ap length w.6 ∙ w.2.auto.1.0 ∙ at.loop-left.invariant.1,
+        ap length w.scratch-is ∙ at.loop-left.invariant.0,
+        ap length w.stack-is ∙ w.stack_list-high.auto.stack ∙ at.loop-left.invariant.1,
         collect_inner a.s t at.loop-left.left (done at) (top at) (others at) (opened at (some read)) (more read) (kind read w.if-is_leaf.false)
-            (ap₂ (slots_in a.s) w.5 w.8) (ap₂ waiting w.6 w.7 ∙ w.2.ensures ∙ ap (λ l. l ++ others at) (list read)),
+            (ap₂ (slots_in a.s) w.scratch-is w.count-is) (ap₂ waiting w.stack-is w.high-is ∙ w.stack_list-high.ensures ∙ ap (λ l. l ++ others at) (list read)),
       )
     ]
 

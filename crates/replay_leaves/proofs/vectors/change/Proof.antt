@@ -9,7 +9,7 @@ use Rattle.replay_leaves.proofs.vectors.change.Tie as tie
 
 shaped : (c : tie.After-summary-b) → Shaped c.args.s.feature c.args.s.dim c.summary-b.result
 shaped c =
-    let start = c.before.before.before in
+    let start = c in
     rw (c.summary-b.ensures [])
     (entry_shaped start.args.s start.requires.0.sized start.args.n start.args.floats.now [] 1 (omega (arith, start.requires.1)))
 

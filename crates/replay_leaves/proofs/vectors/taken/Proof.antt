@@ -11,8 +11,8 @@ use Rattle.head.specs.Heads.{new_counters}
 use Rattle.head.specs.Counting.{count_entries}
 use Rattle.head.specs.Sizes.{node_cap, entry_cap, slot_width, floats_needed, nodes_some}
 use Rattle.arena.specs.Trees.{Floats}
-use Rattle.replay_leaves.proofs.vectors.true.Statement.{statement}
-use Rattle.replay_leaves.proofs.vectors.true.Tie as tie
+use Rattle.replay_leaves.proofs.vectors.taken.Statement.{statement}
+use Rattle.replay_leaves.proofs.vectors.taken.Tie as tie
 
 -- the floats of a tree with two entries, and of one slot more
 room : (s : Settings) (n : Counters) (l : ℕ) → Sized s → s.max_leaves ≡ 1 → n ≡ count_entries 2 (new_counters f0) → l ≡ 102
@@ -32,7 +32,7 @@ read-requires c κs =
 
 agrees-requires : tie.Need-agrees-requires
 agrees-requires c κs =
-    let start = c.before.before.before.before.before.before.before.before in
+    let start = c in
     let new = c.new in
     let n = c.with_entries-n in
     room start.args.s n.result _ start.requires.0 start.requires.1 (n.ensures ∙ ap (count_entries 2) new.ensures)

@@ -17,14 +17,14 @@ decreases-loop s count floats₀ slot₀ i₀ floats slot i = count - i
 
 mul-slot : tie.Need-overflow_mul-slot invariant-loop decreases-loop
 mul-slot c =
-    let start = c.before.before.before.before in
+    let start = c in
     let n : c.node_cap.result ≤ 33153 = rw c.node_cap.ensures (nodes_small start.args.s start.requires) in
     let w : c.slot_width.result ≤ 17 = rw c.slot_width.ensures (slot_small start.args.s start.requires) in
     let p : c.node_cap.result * c.slot_width.result ≤ 33153 * 17 = mul-le-mul n w in omega arith
 
 loop-holds : tie.Need-loop-i-init invariant-loop decreases-loop
 loop-holds c =
-    let start = c.before.before.before.before in
+    let start = c in
     let n : c.node_cap.result ≤ 33153 = rw c.node_cap.ensures (nodes_small start.args.s start.requires) in
     let w : c.slot_width.result ≤ 17 = rw c.slot_width.ensures (slot_small start.args.s start.requires) in
     let p : c.node_cap.result * c.slot_width.result ≤ 33153 * 17 = mul-le-mul n w in
@@ -38,12 +38,12 @@ same_length c =
 
 add-slot : tie.Need-overflow_add-slot invariant-loop decreases-loop
 add-slot c =
-    let start = c.before.before.before.before.before.before.before.before.before.before.before.before.before in
+    let start = c in
     let w = slot_small start.args.s start.requires in let e = c.slot_width-slot.ensures in omega arith
 
 loop-again : tie.Need-loop-i-preserved invariant-loop decreases-loop
 loop-again c =
-    let start = c.before.before.before.before.before.before.before.before.before.before.before.before.before in
+    let start = c in
     let loop = c.loop-i in
     let put-float = c.put_float in
     let w = slot_small start.args.s start.requires in let e = c.slot_width-slot.ensures in

@@ -32,17 +32,17 @@ same-length-2 c =
 
 add-slot : tie.Need-overflow_add-slot invariant-loop decreases-loop
 add-slot c =
-    let start = c.before.before.before.before.before.before.before.before.before.before.before.before.before.before in
+    let start = c in
     let w = slot_small start.args.s start.requires in let e = c.slot_width-slot.ensures in omega arith
 
 add-block : tie.Need-overflow_add-block invariant-loop decreases-loop
 add-block c =
-    let start = c.before.before.before.before.before.before.before.before.before.before.before.before.before.before.before in
+    let start = c in
     let w = block_small start.args.s start.requires in let e = c.block_width-block.ensures in omega arith
 
 loop-again : tie.Need-loop-i-preserved invariant-loop decreases-loop
 loop-again c =
-    let start = c.before.before.before.before.before.before.before.before.before.before.before.before.before.before.before in
+    let start = c in
     let loop = c.loop-i in
     let read-node = c.read_node in
     let w = slot_small start.args.s start.requires in let e = c.slot_width-slot.ensures in

@@ -12,7 +12,7 @@ returns c =
 
 returns-2 : tie.Need-returns
 returns-2 c =
-    let start = c.before.before.before.before in
+    let start = c in
     rows_are start.args.e start.requires _ (sym c.count_of.ensures ∙ c.in-Rows.is)
 
 pub rows_of_spec : {M : Type 1} → statement M

@@ -23,13 +23,13 @@ loop-holds c = (search rules, refl, omega arith, wrote_is (sym (lines_none _ _))
 
 summary-requires : tie.Need-summary-e-requires invariant-loop decreases-loop
 summary-requires c κs =
-    let start = c.before.before.before.before.before.before in
+    let start = c in
     (start.requires.0.floats_in_lem, omega arith)
 
 write-entry-requires : tie.Need-write_entry-end-requires invariant-loop decreases-loop
 write-entry-requires c κs =
     let turn = c.before.before.before.before in
-    let start = turn.before.before.before.before in
+    let start = turn in
     let loop = turn.loop-i in
     let few = start.requires.0.few in
     (rw (c.summary-e.ensures start.args.links.now) (entry_fits start.requires.0 loop.i (omega arith)), omega arith)
@@ -38,7 +38,7 @@ loop-again : tie.Need-loop-i-preserved invariant-loop decreases-loop
 loop-again c =
     let summary = c.before.before.before.before in
     let turn = summary.before.before.before in
-    let start = turn.before.before.before.before in
+    let start = turn in
     let loop = turn.loop-i in
     let new = c.write_entry-end in
     let more = wrote_entry start.requires.0 loop.i (omega arith) loop.invariant.3 loop.invariant.2 (summary.summary-e.ensures start.args.links.now)
@@ -50,7 +50,7 @@ same_length c = c.loop-i.invariant.1
 
 returns : tie.Need-returns invariant-loop decreases-loop
 returns c =
-    let start = c.before.before.before.before.before.before in
+    let start = c in
     let loop = c.loop-i in
     let long = count_entries_lem start.args.s start.args.n start.args.floats.now start.args.links.now in
     wrote_is (lines-all start.args.s _ loop.i (omega arith)) loop.invariant.3

@@ -17,59 +17,47 @@ write-decimal-requires c κs = omega (arith, decimal_short c.args.i)
 
 decimal-requires : tie.Need-decimal-b-requires
 decimal-requires c κs =
-    let start = c.before.before.before.before.before.before.before in
-    omega (arith, c.write_decimal-a.ensures.1, c.write_decimal-a.auto.out, decimal_short start.args.i)
+    let start = c in
+    omega (arith, c.write_decimal-a.ensures.1, c.write_decimal-a.auto.out, decimal_short c.args.i)
 
 write-summary-requires : tie.Need-write_summary-c-requires
 write-summary-requires c κs =
-    let write-decimal = c.before.before.before.before.before.before.before in
-    let rows_of_lem = write-decimal.before.before in
-    let start = rows_of_lem.before.before in
     let e = c.decimal-b.ensures in (
-      start.requires.0,
+      c.requires.0,
       omega (
         arith,
-        write-decimal.write_decimal-a.ensures.1,
-        write-decimal.write_decimal-a.auto.out,
-        decimal_short start.args.i,
+        c.write_decimal-a.ensures.1,
+        c.write_decimal-a.auto.out,
+        decimal_short c.args.i,
         e.end,
         wrote_long e,
-        tabbed-decimal rows_of_lem.rows_of_lem.result,
+        tabbed-decimal c.rows_of-rows.result,
       ),
     )
 
 newline-requires : tie.Need-newline-requires
 newline-requires c κs =
-    let decimal = c.before.before.before.before.before.before.before in
-    let write-decimal = decimal.before.before.before.before in
-    let rows_of_lem = write-decimal.before.before in
-    let start = rows_of_lem.before.before in
-    let e = decimal.decimal-b.ensures in
+    let e = c.decimal-b.ensures in
     let f = c.write_summary-c.ensures in
     omega (
       arith,
-      write-decimal.write_decimal-a.ensures.1,
-      write-decimal.write_decimal-a.auto.out,
-      decimal_short start.args.i,
+      c.write_decimal-a.ensures.1,
+      c.write_decimal-a.auto.out,
+      decimal_short c.args.i,
       e.end,
       wrote_long e,
-      tabbed-decimal rows_of_lem.rows_of_lem.result,
+      tabbed-decimal c.rows_of-rows.result,
       f.end,
       wrote_long f,
-      summary_short _ _ start.requires.0,
+      summary_short _ _ c.requires.0,
     )
 
 returns : tie.Need-returns
 returns c =
-    let write-summary = c.before.before.before.before.before.before in
-    let decimal = write-summary.before.before.before.before in
-    let write-decimal = decimal.before.before.before.before in
-    let rows_of_lem = write-decimal.before.before in
-    let start = rows_of_lem.before.before in
-    let a = start.args in
-    let first = wrote_decimal a.i (omega arith) write-decimal.write_decimal-a.ensures in
-    let rows = wrote_is (ap (λ n. tabbed (decimal_of n ∷ [])) rows_of_lem.rows_of_lem.ensures) decimal.decimal-b.ensures in
-    wrote_is (entry_is _ _ start.requires.0 a.i) (wrote_both (wrote_both (wrote_both first rows) write-summary.write_summary-c.ensures)
+    let a = c.args in
+    let first = wrote_decimal a.i (omega arith) c.write_decimal-a.ensures in
+    let rows = wrote_is (ap (λ n. tabbed (decimal_of n ∷ [])) c.rows_of-rows.ensures) c.decimal-b.ensures in
+    wrote_is (entry_is _ _ c.requires.0 a.i) (wrote_both (wrote_both (wrote_both first rows) c.write_summary-c.ensures)
     c.newline.ensures)
 
 pub write_entry_spec : {M : Type 1} → statement M

@@ -14,7 +14,7 @@ hexes-requires-2 : tie.Need-hexes-requires
 hexes-requires-2 c κs =
     let hexes = c.before.before.before.before in
     let at_slots = hexes.before.before.before.before.before in
-    let start = at_slots.before.before in
+    let start = at_slots in
     let slots = at_slots.slots-slots.ensures in
     let e = hexes.hexes-end.ensures in
     let f = start.requires.0 in
@@ -24,8 +24,8 @@ returns : tie.Need-returns
 returns c =
     let hexes = c.before.before.before.before.before.before.before in
     let slots = hexes.before.before.before.before.before in
-    let start = slots.before.before in
-    let more = wrote_is (ap (λ k. tabbed (map hex_of (take k start.args.e.deviation-1))) slots.slots-slots.ensures) c.hexes.ensures in
+    let start = slots in
+    let more = wrote_is (ap (λ k. tabbed (map hex_of (take k start.args.e.deviation))) slots.slots-slots.ensures) c.hexes.ensures in
     wrote_is (summary-is _ _ start.requires.0) (wrote_both hexes.hexes-end.ensures more)
 
 pub write_summary_spec : {M : Type 1} → statement M

@@ -13,12 +13,12 @@ write-decimal-requires c κs = simp length-set (let e = decimal_short c.args.n i
 
 same_length : tie.Need-shape_of-out
 same_length c =
-    let start = c.before.before.before.before.before in
+    let start = c in
     c.write_decimal.auto.out ∙ length-set start.args.out.now _ _
 
 returns : tie.Need-returns
 returns c =
-    let start = c.before.before.before.before.before in
+    let start = c in
     wrote_is (tabbed-one (decimal_of start.args.n)) (wrote_both (wrote_byte start.args.at start.args.out.now 9 (omega arith))
     (wrote_decimal start.args.n (simp length-set (omega arith)) c.write_decimal.ensures))
 

@@ -9,13 +9,13 @@ use Rattle.reports.proofs.fields.decimals.Tie as tie
 
 decimal-requires-2 : tie.Need-decimal-requires
 decimal-requires-2 c κs =
-    let start = c.before.before.before.before.before.before in
+    let start = c in
     let e = c.decimal-end.ensures in omega (arith, wrote_long e, e.end, tabbed-decimal start.args.m)
 
 returns : tie.Need-returns
 returns c =
     let decimal = c.before.before.before.before.before.before in
-    let start = decimal.before.before.before in
+    let start = decimal in
     wrote_is (tabbed_both (decimal_of start.args.m ∷ []) (decimal_of start.args.n ∷ [])) (wrote_both decimal.decimal-end.ensures
     c.decimal.ensures)
 

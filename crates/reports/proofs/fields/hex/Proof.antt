@@ -14,12 +14,12 @@ write-hex-requires c κs = simp length-set (omega arith)
 
 same_length : tie.Need-shape_of-out
 same_length c =
-    let start = c.before.before.before.before.before in
+    let start = c in
     c.write_hex.auto.out ∙ length-set start.args.out.now _ _
 
 returns : tie.Need-returns
 returns c =
-    let start = c.before.before.before.before.before in
+    let start = c in
     wrote_is (tabbed-one (hex_of start.args.x)) (wrote_both (wrote_byte start.args.at start.args.out.now 9 (omega arith))
     (record {
       bytes_in = c.write_hex.ensures.0;

@@ -23,14 +23,14 @@ loop-holds c = (search rules, refl, wrote_none _ _ (omega arith))
 
 hex-requires : tie.Need-hex-end-requires invariant-loop decreases-loop
 hex-requires c κs =
-    let start = c.before.before.before.before.before.before in
+    let start = c in
     let loop = c.loop-i in
     let l = length-take-le loop.i start.args.xs.now (omega arith) in
     omega (arith, loop.invariant.2.end, hexes_long (take loop.i start.args.xs.now), l)
 
 loop-again : tie.Need-loop-i-preserved invariant-loop decreases-loop
 loop-again c =
-    let turn = c.before.before.before.before.before.before in
+    let turn = c in
     let loop = turn.loop-i in
     let new = c.hex-end in
     (omega arith, new.auto.out ∙ loop.invariant.1, wrote_is (hexes_more _ loop.i _ (omega arith)) (wrote_both loop.invariant.2 new.ensures))
@@ -40,7 +40,7 @@ same_length c = c.loop-i.invariant.1
 
 returns : tie.Need-returns invariant-loop decreases-loop
 returns c =
-    let start = c.before.before.before.before in
+    let start = c in
     let loop = c.loop-i in
     let e : loop.i ≡ start.args.k = omega arith in
     wrote_is (ap (λ n. tabbed (map hex_of (take n start.args.xs.now))) e) loop.invariant.2

@@ -19,13 +19,13 @@ loop-holds c = (search rules, refl)
 
 returns : tie.Need-returns-then-line-i-eq9 invariant-loop decreases-loop
 returns c =
-    let start = c.before.before.before.before in
+    let start = c in
     let loop = c.loop-i in
     omega (arith, tab_here start.args.line.now loop.i (omega arith) c.if-line-i-eq9.true, loop.invariant.1)
 
 loop-again : tie.Need-loop-i-preserved invariant-loop decreases-loop
 loop-again c =
-    let start = c.before.before.before.before in
+    let start = c in
     let loop = c.loop-i in
     (omega arith, omega (arith, tab_later start.args.line.now loop.i (omega arith) c.if-line-i-eq9.false, loop.invariant.1))
 

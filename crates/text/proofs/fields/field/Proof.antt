@@ -19,15 +19,15 @@ loop-holds c = (search rules, search rules, begins_first c.args.line.now)
 
 add-from : tie.Need-overflow_add-from invariant-loop decreases-loop
 add-from c =
-    let start = c.before.before.before.before in
+    let start = c in
     let loop = c.loop-j in
-    omega (arith, (begins_next start.args.line.now loop.j loop.from c.end_of_lem.result loop.invariant.2 c.end_of_lem.ensures (omega arith)).0)
+    omega (arith, (begins_next start.args.line.now loop.j loop.from c.end_of-from.result loop.invariant.2 c.end_of-from.ensures (omega arith)).0)
 
 loop-again : tie.Need-loop-j-preserved invariant-loop decreases-loop
 loop-again c =
-    let start = c.before.before.before.before in
+    let start = c in
     let loop = c.loop-j in
-    let next = begins_next start.args.line.now loop.j loop.from c.end_of_lem.result loop.invariant.2 c.end_of_lem.ensures (omega arith) in
+    let next = begins_next start.args.line.now loop.j loop.from c.end_of-from.result loop.invariant.2 c.end_of-from.ensures (omega arith) in
     (omega arith, omega (arith, next.0), next.1)
 
 sub-result : tie.Need-slice_bounds-result-count invariant-loop decreases-loop
@@ -38,12 +38,12 @@ part-result-start c = omega (arith, c.end_of-end.ensures)
 
 part-result-end : tie.Need-slice_bounds-result-end invariant-loop decreases-loop
 part-result-end c =
-    let start = c.before.before.before.before in
+    let start = c in
     omega (arith, c.end_of-end.ensures, end_in start.args.line.now c.loop-j.from (omega arith))
 
 returns : tie.Need-returns invariant-loop decreases-loop
 returns c =
-    let start = c.before.before.before.before.before in
+    let start = c in
     let loop = c.loop-j in
     let e : loop.j ≡ start.args.k = omega arith in
     begins_is start.args.line.now loop.j loop.from c.end_of-end.result loop.invariant.2 c.end_of-end.ensures

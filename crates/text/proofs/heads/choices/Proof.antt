@@ -23,15 +23,15 @@ returns-3 c = no_abs _ (word_none _ (sym c.distance-2.ensures ∙ c.in_default-d
 
 -- where a word is read, and those before it
 abbrev second : tie.In-Is-distance-2 → tie.In-Is-distance
-second c = c.before.before.before.before
+second c = c.before.before
 
 abbrev first : tie.In-Is-distance-2 → tie.In-Is
-first c = (second c).before.before.before.before
+first c = (second c).before.before
 
 returns-4 : tie.Need-returns
 unfolding ChoicesRead
 returns-4 c =
-    let at = (first c).before.before.before in
+    let at = first c in
     let word = at.feature_word.ensures ∙ ap (λ l. word_told (feature_word l)) at.field.ensures in (
       word_some _ _ (sym word ∙ (first c).in-Is.is),
       word_some _ _ (sym (second c).distance.ensures ∙ (second c).in-Is-distance.is),

@@ -26,16 +26,16 @@ abbrev read : tie.After-taken → tie.In-Is
 read c = c.before.before
 
 abbrev chosen : tie.After-taken → tie.In-Are-choices
-chosen c = (read c).before.before.before.before.before
+chosen c = (read c).before.before.before
 
 abbrev sized : tie.After-taken → tie.In-Are
-sized c = (chosen c).before.before.before.before
+sized c = (chosen c).before.before
 
 returns-4 : tie.Need-returns
 returns-4 c =
-    let at = (read c).before.before.before in
+    let at = read c in
     let float = at.hex_float.ensures ∙ ap (λ l. real_told (hex_float l)) at.field.ensures in
-    c.true.ensures ∙ ap (λ h. first_told (taken h)) c.new.ensures ∙ ap first_told (sym (head-is _ _ _ _ _ _ _ _ _
+    c.taken.ensures ∙ ap (λ h. first_told (taken h)) c.new.ensures ∙ ap first_told (sym (head-is _ _ _ _ _ _ _ _ _
     (subst (SizesRead _) (sized c).in-Are.is (sized c).sizes.ensures)
     (subst (ChoicesRead _) (chosen c).in-Are-choices.is (chosen c).choices.ensures)
     (real_some _ _ (sym float ∙ (read c).in-Is.is))))

@@ -24,13 +24,13 @@ returns-4 c = no_most _ (number_none _ (sym c.number-4.ensures ∙ c.in_default-
 
 -- where a number is read, and those before it
 abbrev third : tie.In-Is-number-3 → tie.In-Is-number-2
-third c = c.before.before.before.before
+third c = c.before.before
 
 abbrev second : tie.In-Is-number-3 → tie.In-Is-number
-second c = (third c).before.before.before.before
+second c = (third c).before.before
 
 abbrev first : tie.In-Is-number-3 → tie.In-Is
-first c = (second c).before.before.before.before
+first c = (second c).before.before
 
 returns-5 : tie.Need-returns
 unfolding SizesRead

@@ -5,8 +5,8 @@ use borrow.Author.Rules.{rules}
 use borrow.Author.Tests.{not-true, not-false}
 use Rattle.text.specs.Told.{first_told}
 use Rattle.text.specs.Firsts.{not-allowed, too_many, is-taken}
-use Rattle.text.proofs.heads.true.Statement.{statement}
-use Rattle.text.proofs.heads.true.Tie as tie
+use Rattle.text.proofs.heads.taken.Statement.{statement}
+use Rattle.text.proofs.heads.taken.Tie as tie
 
 returns : tie.Need-returns-then-h-gt24
 unfolding first_told

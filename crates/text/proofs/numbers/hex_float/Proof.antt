@@ -20,9 +20,8 @@ returns-2 c =
 returns-3 : tie.Need-returns
 unfolding real_told
 returns-3 c =
-    let at = c.before.before.before.before in
-    let bits = number_some _ _ (sym at.of_sixteens.ensures ∙ c.in-Is.is) in
-    ap R.Is c.of_bits.ensures ∙ ap real_told (sym (real_is _ _ bits at.if-field-ne16.false))
+    let bits = number_some _ _ (sym c.of_sixteens.ensures ∙ c.in-Is.is) in
+    ap R.Is c.of_bits.ensures ∙ ap real_told (sym (real_is _ _ bits c.if-field-ne16.false))
 
 pub hex_float_spec : {M : Type 1} → statement M
 hex_float_spec =

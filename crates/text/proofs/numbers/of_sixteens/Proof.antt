@@ -19,7 +19,7 @@ decreases-loop field n₀ i₀ n i = length field - i
 
 -- where the turn begins
 abbrev turn : tie.After-wide invariant-loop decreases-loop → tie.At-loop-i invariant-loop decreases-loop
-turn c = c.before.before.before.before.before.before.before
+turn c = c.before.before.before.before.before
 
 -- the digit at i
 is : (c : tie.After-wide invariant-loop decreases-loop) → hex_digit (get_or (turn c).args.field.now (turn c).loop-i.i 0) ≡ some c.wide.result

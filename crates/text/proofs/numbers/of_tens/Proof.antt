@@ -20,7 +20,7 @@ decreases-loop field n₀ i₀ n i = length field - i
 
 -- where the turn begins, and the field
 abbrev turn : tie.After-wide invariant-loop decreases-loop → tie.At-loop-i invariant-loop decreases-loop
-turn c = c.before.before.before.before.before.before.before
+turn c = c.before.before.before.before.before
 
 abbrev text : tie.After-wide invariant-loop decreases-loop → List ℕ
 text c = (turn c).args.field.now

@@ -27,9 +27,8 @@ returns c =
 
 loop-again : tie.Need-loop-k-preserved invariant-loop decreases-loop
 loop-again c =
-    let at = c.before.before.before in
-    let loop = at.loop-k in
-    let float = at.hex_float.ensures ∙ ap (λ l. real_told (hex_float l)) at.field.ensures in (
+    let loop = c.loop-k in
+    let float = c.hex_float.ensures ∙ ap (λ l. real_told (hex_float l)) c.field.ensures in (
       omega arith,
       simp length-set loop.invariant.1,
       front_more _ _ _ loop.k _ loop.invariant.2 (omega arith) (omega arith) (real_some _ _ (sym float ∙ c.in-Is.is)),

@@ -14,7 +14,7 @@ abbrev text1 : tie.Else-is → List ℕ
 text1 c = c.args.field.now
 
 abbrev text2 : tie.Else-is-2 → List ℕ
-text2 c = text1 c.before.before.before
+text2 c = text1 c.before.before.before.before
 
 -- the words behind those are left
 not1 : (c : tie.Else-is) → feature_word (text1 c) ≡ feature_from 1 (text1 c)
@@ -23,7 +23,7 @@ not1 c = word_later 0 "spherical" _ _ (sym c.is.ensures ∙ c.if-is.false)
 
 not2 : (c : tie.Else-is-2) → feature_word (text2 c) ≡ feature_from 2 (text2 c)
 unfolding feature_word feature_from bytes
-not2 c = not1 c.before.before.before ∙ word_later 1 "diagonal" _ _ (sym c.is-2.ensures ∙ c.if-is-2.false)
+not2 c = not1 c.before.before.before.before ∙ word_later 1 "diagonal" _ _ (sym c.is-2.ensures ∙ c.if-is-2.false)
 
 returns : tie.Need-returns-then-is
 unfolding feature_word feature_from bytes word_told
@@ -31,7 +31,7 @@ returns c = ap word_told (sym (word_here 0 "spherical" _ _ (sym c.is.ensures ∙
 
 returns-2 : tie.Need-returns-then-is-2
 unfolding feature_word feature_from bytes word_told
-returns-2 c = ap word_told (sym (not1 c.before.before.before ∙ word_here 1 "diagonal" _ _ (sym c.is-2.ensures ∙ c.if-is-2.true)))
+returns-2 c = ap word_told (sym (not1 c.before.before.before.before ∙ word_here 1 "diagonal" _ _ (sym c.is-2.ensures ∙ c.if-is-2.true)))
 
 returns-3 : tie.Need-returns
 unfolding feature_from word_told
@@ -39,5 +39,4 @@ returns-3 c = ap word_told (sym (not2 c ∙ word_none 2 _))
 
 pub feature_word_spec : {M : Type 1} → statement M
 feature_word_spec =
-    tie.close (tie.spec (λ c. search rules) (λ c κs. search rules) returns
-    (λ c. search rules) (λ c κs. search rules) returns-2 returns-3)
+    tie.close (tie.spec (λ c κs. search rules) returns (λ c κs. search rules) returns-2 returns-3)

@@ -20,13 +20,13 @@ loop-holds c = (search rules, refl, refl)
 
 letter-requires : tie.Need-letter-requires invariant-loop decreases-loop
 letter-requires c κs =
-    let start = c.before.before.before in
+    let start = c in
     let below : c.loop-i.rest % start.args.base < start.args.base = mod-lt _ (omega arith) in
     omega (arith, below)
 
 loop-again : tie.Need-loop-i-preserved invariant-loop decreases-loop
 loop-again c =
-    let start = c.before.before.before.before in
+    let start = c in
     let loop = c.loop-i in (
       omega arith,
       simp length-set loop.invariant.1,
@@ -36,7 +36,7 @@ loop-again c =
 
 returns : tie.Need-returns invariant-loop decreases-loop
 returns c =
-    let start = c.before.before.before in
+    let start = c in
     let loop = c.loop-i in
     sym (stored_end loop.i start.args.base loop.rest start.args.at _ (omega arith)) ∙ loop.invariant.2
     ∙ stored-written start.args.k start.args.base start.args.n start.args.at _ (omega arith)

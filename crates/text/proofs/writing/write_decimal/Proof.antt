@@ -19,7 +19,7 @@ add-result c =
 returns : tie.Need-returns
 unfolding decimal_of
 returns c =
-    let start = c.before.before.before.before.before.before in
+    let start = c in
     let places = c.places-k in (
       c.digits.ensures ∙ ap (λ k. written start.args.at (digits_of k 10 start.args.n []) start.args.out.now) places.ensures,
       ap (λ k. start.args.at + k) (places.ensures ∙ sym (decimal-length start.args.n)),

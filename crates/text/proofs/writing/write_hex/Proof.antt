@@ -11,7 +11,7 @@ use Rattle.text.proofs.writing.write_hex.Tie as tie
 returns : tie.Need-returns
 unfolding hex_of
 returns c =
-    let start = c.before.before.before.before.before.before in (
+    let start = c in (
       c.digits.ensures
           ∙ ap (λ b. written start.args.at (digits_of 16 16 b []) start.args.out.now) c.bits_of.ensures,
       ap (λ k. start.args.at + k) (sym (hex_length start.args.x)),

@@ -19,16 +19,12 @@ returns c =
 returns-2 : tie.Need-returns-then-p-i
 unfolding parent_of down_of names
 returns-2 c =
-    let start = c.before.before.before.before in
-    let p = c.p-1 in
-    λ fs. rw (← c.parent.ensures fs, p.given.1, eq-eqb start.args.i p.given.0.0 (sym c.if-p-i.true))
+    λ fs. rw (← c.parent.ensures fs, c.in-Node.is, eq-eqb c.args.i c.in-Node.p (sym c.if-p-i.true))
 
 returns-3 : tie.Need-returns-else-p-i
 unfolding parent_of down_of names
 returns-3 c =
-    let start = c.before.before.before.before in
-    let p = c.p-1 in
-    λ fs. rw (← c.parent.ensures fs, p.given.1, ne_eqb start.args.i p.given.0.0 (λ w. c.if-p-i.false (sym w)))
+    λ fs. rw (← c.parent.ensures fs, c.in-Node.is, ne_eqb c.args.i c.in-Node.p (λ w. c.if-p-i.false (sym w)))
 
 pub down_spec : {M : Type 1} → statement M
 down_spec = tie.close (tie.spec parent-requires (λ c. search rules) (λ c. search rules) returns returns-2 returns-3)

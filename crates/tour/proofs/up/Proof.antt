@@ -15,28 +15,24 @@ parent-requires c κs = (c.requires.0, c.requires.1)
 list-requires : tie.Need-list-requires
 unfolding parent_of
 list-requires c κs =
-    let start = c.before.before.before in
     let parent = c.parent in
-    let p = c.p-1 in (
-      start.requires.0,
-      rw (← count_nodes_lem start.args.s start.args.n [] start.args.links.now)
-          (start.requires.2 [] p.given.0.0 (sym (parent.ensures []) ∙ ap parent_of p.given.1)),
+    (
+      c.requires.0,
+      rw (← count_nodes_lem c.args.s c.args.n [] c.args.links.now)
+          (c.requires.2 [] c.in-Node.p (sym (parent.ensures []) ∙ ap parent_of c.in-Node.is)),
     )
 
 returns : tie.Need-returns-in-Node
 unfolding parent_of up_of
 returns c =
-    let start = c.before.before.before.before.before in
     let parent = c.parent in
-    let p = c.p-1 in
-    λ fs. ap (Up p.given.0.0) (c.place_after.ensures ∙ ap (place_after start.args.i) (c.list.ensures fs))
-    ∙ ap (up_of _ start.args.i) (sym (ap parent_of p.given.1) ∙ parent.ensures fs)
+    λ fs. ap (Up c.in-Node.p) (c.place_after.ensures ∙ ap (place_after c.args.i) (c.list.ensures fs))
+    ∙ ap (up_of _ c.args.i) (sym (ap parent_of c.in-Node.is) ∙ parent.ensures fs)
 
 returns-2 : tie.Need-returns-in-NoParent
 unfolding parent_of up_of
 returns-2 c =
-    let start = c.before.before.before in
-    λ fs. ap (up_of _ start.args.i) (sym (ap parent_of c.in-NoParent.is) ∙ c.parent.ensures fs)
+    λ fs. ap (up_of _ c.args.i) (sym (ap parent_of c.in-NoParent.is) ∙ c.parent.ensures fs)
 
 pub up_spec : {M : Type 1} → statement M
 up_spec = tie.close (tie.spec parent-requires (λ c. search rules) list-requires (λ c κs. search rules) (λ c. search rules) returns returns-2)

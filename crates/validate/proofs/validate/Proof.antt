@@ -38,7 +38,7 @@ abbrev start-3 : tie.Else-not-lists_fit → tie.Start
 start-3 c = start-2 c.before.before
 
 abbrev start-4 : tie.In-Whole → tie.Start
-start-4 c = start-3 c.before.before.before.before
+start-4 c = start-3 c.before.before
 
 abbrev start-5 : tie.Else-not-filled → tie.Start
 start-5 c = start-4 c.before.before
@@ -70,12 +70,12 @@ unfolding tested
 met-3 c = holds 3 _ _ (met-2 c.before.before) (sym (c.lists_fit.ensures (start-3 c).args.floats.now) ∙ not-false _ c.if-not-lists_fit.false-raw)
 
 -- the walk that is whole
-walked : (c : tie.In-Whole) → walked_once (lent (start-4 c)) ≡ Whole c.in-Whole.depths-1
+walked : (c : tie.In-Whole) → walked_once (lent (start-4 c)) ≡ Whole c.in-Whole.depths
 walked c = sym (c.walk_once.ensures (start-4 c).args.floats.now) ∙ c.in-Whole.is
 
 met-4 : (c : tie.In-Whole) → Met 4 (start-4 c)
 unfolding tested whole
-met-4 c = holds 4 _ _ (met-3 c.before.before.before.before) (ap whole (walked c))
+met-4 c = holds 4 _ _ (met-3 c.before.before) (ap whole (walked c))
 
 met-5 : (c : tie.Else-not-filled) → Met 5 (start-5 c)
 unfolding tested
@@ -148,11 +148,11 @@ walk-once-requires c κs = (links c.before.before.before.before, listed c, few c
 
 returns-4 : tie.Need-returns-in_default
 unfolding tested whole
-returns-4 c = fails 4 _ _ (met-3 c.before.before.before) (ap whole (sym (c.walk_once.ensures
-    (start-3 c.before.before.before).args.floats.now) ∙ c.in_default.is))
+returns-4 c = fails 4 _ _ (met-3 c.before.before) (ap whole (sym (c.walk_once.ensures
+    (start-3 c.before.before).args.floats.now) ∙ c.in_default.is))
 
 filled-requires : tie.Need-filled-requires
-filled-requires c κs = links c.before.before.before.before.before.before.before.before
+filled-requires c κs = links c.before.before.before.before.before.before
 
 returns-5 : tie.Need-returns-then-not-filled
 unfolding tested
@@ -166,7 +166,7 @@ returns-6 c = fails 6 _ _ (met-5 c.before.before) (ap even (walked c.before.befo
 
 summed-requires : tie.Need-summed-requires
 summed-requires c κs =
-    let c3 = c.before.before.before.before.before.before.before.before in
+    let c3 = c.before.before.before.before.before.before in
     let c1 = c3.before.before.before.before in
     (floats c1, links c1, listed c3, root_in c3.before.before)
 

@@ -9,76 +9,68 @@ use Rattle.weights.proofs.summed.Tie as tie
 
 entries-count-requires : tie.Need-entries_count-requires
 entries-count-requires c κs =
-    let start = c.before.before in
-    start.requires.0
+    c.requires.0
 
 returns : tie.Need-returns-then-not-entries_count
 unfolding summed
 returns c =
-    let start = c.before.before.before.before in
-    rw (← c.entries_count.ensures start.args.links.now, not-true c.entries_count.result c.if-not-entries_count.true-raw)
+    rw (← c.entries_count.ensures c.args.links.now, not-true c.entries_count.result c.if-not-entries_count.true-raw)
 
 total-requires : tie.Need-total-requires
 total-requires c κs =
-    let start = c.before.before.before.before in
-    (start.requires.0, λ ls. sym (c.entries_count.ensures ls) ∙ not-false _ c.if-not-entries_count.false-raw)
+    (c.requires.0, λ ls. sym (c.entries_count.ensures ls) ∙ not-false _ c.if-not-entries_count.false-raw)
 
 returns-2 : tie.Need-returns-then-total-gt-MOST_ROWS
 unfolding summed
 returns-2 c =
-    let start = c.before.before.before.before.before.before in
     let entries-count = c.entries_count in
     let if1 = c.if-not-entries_count in
     rw (
-      ← entries-count.ensures start.args.links.now,
-      not-false entries-count.result if1.false,
-      ← c.total.ensures start.args.links.now,
+      ← entries-count.ensures c.args.links.now,
+      if1.false,
+      ← c.total.ensures c.args.links.now,
       lt-leb c.total.result most c.if-total-gt-MOST_ROWS.true,
     )
 
 weighs-nothing-requires : tie.Need-weighs_nothing-requires
 weighs-nothing-requires c κs =
-    let start = c.before.before.before.before.before.before.before.before in
-    (start.requires.0, start.requires.3)
+    (c.requires.0, c.requires.3)
 
 returns-3 : tie.Need-returns-then-n-eq0
 unfolding summed
 returns-3 c =
-    let start = c.before.before.before.before.before.before.before.before.before in
     let entries-count = c.entries_count in
     let if1 = c.if-not-entries_count in
     let total = c.total in
     let if2 = c.if-total-gt-MOST_ROWS in
     rw (
-      ← entries-count.ensures start.args.links.now,
-      not-false entries-count.result if1.false,
-      ← total.ensures start.args.links.now,
+      ← entries-count.ensures c.args.links.now,
+      if1.false,
+      ← total.ensures c.args.links.now,
       le-leb total.result most if2.false,
-      count_entries_lem start.args.s start.args.n start.args.floats.now start.args.links.now,
-      eq-eqb start.args.n.entries 0 c.if-n-eq0.true,
+      count_entries_lem c.args.s c.args.n c.args.floats.now c.args.links.now,
+      eq-eqb c.args.n.entries 0 c.if-n-eq0.true,
     )
-    (c.weighs_nothing.ensures start.args.links.now)
+    (c.weighs_nothing.ensures c.args.links.now)
 
 nodes-add-up-requires : tie.Need-nodes_add_up-requires
 nodes-add-up-requires c κs =
-    let start = c.before.before.before.before.before.before.before.before in
-    record { floats = start.requires.0; links = start.requires.1; listed = start.requires.2 }
+    record { floats = c.requires.0; links = c.requires.1; listed = c.requires.2 }
 
 returns-4 : tie.Need-returns
 unfolding summed
 returns-4 c =
-    let start = c.before.before.before.before.before.before.before.before.before in
     let entries-count = c.entries_count in
     let if1 = c.if-not-entries_count in
     let total = c.total in
     let if2 = c.if-total-gt-MOST_ROWS in
     rw (
-      ← entries-count.ensures start.args.links.now,
-      not-false entries-count.result if1.false,
-      ← total.ensures start.args.links.now,
+      ← entries-count.ensures c.args.links.now,
+      if1.false,
+      ← total.ensures c.args.links.now,
       le-leb total.result most if2.false,
-      count_entries_lem start.args.s start.args.n start.args.floats.now start.args.links.now,
-      ne_eqb start.args.n.entries 0 c.if-n-eq0.false,
+      count_entries_lem c.args.s c.args.n c.args.floats.now c.args.links.now,
+      ne_eqb c.args.n.entries 0 c.if-n-eq0.false,
     )
     c.nodes_add_up.ensures
 

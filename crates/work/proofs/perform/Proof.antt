@@ -7,13 +7,11 @@ use Rattle.work.proofs.perform.Tie as tie
 
 insert-all-requires : tie.Need-insert_all-requires
 insert-all-requires c κs =
-    let start = c.before.before.before.before.before.before.before.before.before.before.before in
-    (start.requires.0, (start.requires.1.0, insert_asks _ _ c.in-Insert.is start.requires.1.1))
+    (c.requires.0, (c.requires.1.0, insert_asks _ _ c.in-Insert.is c.requires.1.1))
 
 refit-requires : tie.Need-refit-requires
 refit-requires c κs =
-    let start = c.before.before.before.before.before.before.before.before.before.before.before in
-    (start.requires.0, (start.requires.1.0, refit_asks _ _ c.in-Refit.is start.requires.1.1))
+    (c.requires.0, (c.requires.1.0, refit_asks _ _ c.in-Refit.is c.requires.1.1))
 
 returns : tie.Need-returns-in-Insert
 returns c = (c.insert_all.ensures.0, c.insert_all.ensures.1 ∙ insert_does _ _ c.in-Insert.is _)

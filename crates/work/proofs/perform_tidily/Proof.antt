@@ -7,14 +7,12 @@ use Rattle.work.proofs.perform_tidily.Tie as tie
 
 perform-requires : tie.Need-perform-m-requires
 perform-requires c κs =
-    let start = c.before.before.before.before.before.before.before.before.before in
-    ((start.requires.0.tree.floats_in_lem, start.requires.0.tree.links_in, scratch_in start.requires.0), start.requires.1)
+    ((c.requires.0.tree.floats_in_lem, c.requires.0.tree.links_in, scratch_in c.requires.0), c.requires.1)
 
 tidy-all-requires : tie.Need-tidy_all-requires
 tidy-all-requires c κs =
-    let start = c.before.before.before.before.before.before.before.before.before.before.before.before.before.before.before.before.before.before.before.before.before.before in
     let new = c.perform-m in
-    all_fronts start.requires.0 new.auto.floats new.auto.links new.auto.scratch new.auto.numbers new.ensures.0.0
+    all_fronts c.requires.0 new.auto.floats new.auto.links new.auto.scratch new.auto.numbers new.ensures.0.0
     new.ensures.0.1
 
 returns : tie.Need-returns

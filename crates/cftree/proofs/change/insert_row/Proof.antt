@@ -18,7 +18,7 @@ lent c = lending c.args.floats.now c.args.links.now c.args.scratch.now c.args.nu
 
 -- where no refusal applies
 abbrev start : tie.In-Accepted → tie.Start
-start c = c.before.before.before.before.before.before.before.before.before.before.before.before
+start c = c.before.before.before.before.before.before.before
 
 accepts : (c : tie.In-Accepted) → answer_of (row_refusals (start c).args.h (lent (start c)) (start c).args.row.now) ≡ Accepted
 accepts c = sym c.row-answer.ensures ∙ c.in-Accepted.is
@@ -26,7 +26,7 @@ accepts c = sym c.row-answer.ensures ∙ c.in-Accepted.is
 returns : tie.Need-returns-in_default
 unfolding row_inserted
 returns c =
-    let start = c.before.before.before.before.before.before.before.before.before.before.before.before in
+    let start = c.before.before.before.before.before.before.before in
     refused_as_lent start.args.h (lent start) (row_refusals start.args.h (lent start) start.args.row.now) c.row-answer.ensures _ c.in_default.is
 
 change-requires : tie.Need-change-head-requires

@@ -11,7 +11,7 @@ use Rattle.cftree.proofs.look.route.Tie as tie
 
 -- where no refusal applies
 abbrev start : tie.In-Accepted → tie.Start
-start c = c.before.before.before.before.before.before.before.before
+start c = c.before.before.before.before.before.before
 
 granted : (c : tie.In-Accepted) → let a = (start c).args in RouteTaken a.h a.floats.now a.links.now a.rows.now a.out.now
 granted c = route_taken _ _ _ _ _ (sym c.route-answer.ensures ∙ c.in-Accepted.is)
@@ -23,13 +23,13 @@ returns c =
     unwritten (route_refusals a.h a.floats.now a.links.now a.rows.now a.out.now) c.route-answer.ensures _ _ c.in_default.is
 
 div-write-routes : tie.Need-nonzero_div-rows
-div-write-routes c = rw c.settings-s.ensures (granted (c.before.before)).readable.roomy.sized.dim_some
+div-write-routes c = rw c.settings-s.ensures (granted (c.before.before.before)).readable.roomy.sized.dim_some
 
 write-routes-requires : tie.Need-write_routes-requires
 unfolding lent_tree
 write-routes-requires c κs =
-    let start = start (c.before.before.before) in
-    let g = granted (c.before.before.before) in
+    let start = start (c.before.before.before.before) in
+    let g = granted (c.before.before.before.before) in
     let seen = readable_seen start.args.h start.args.floats.now start.args.links.now g.readable in
     rw c.settings-s.ensures (
       (seen.floats_in_lem, seen.links_in, rows_in _ _, g.room),

@@ -34,17 +34,17 @@ returns c =
 
 div-full : tie.Need-nonzero_div-rows
 unfolding settings_of
-div-full c = (allowed-sized _ (ready (c.before.before)).allows).dim_some
+div-full c = (allowed-sized _ (ready (c.before.before.before)).allows).dim_some
 
 full-requires : tie.Need-full-requires
-full-requires c κs = rw c.settings.ensures (ready_counts _ _ (ready (c.before.before)))
+full-requires c κs = rw c.settings.ensures (ready_counts _ _ (ready (c.before.before.before)))
 
 returns-2 : tie.Need-returns
 unfolding settings_of lent_tree
 returns-2 c =
-    let start = start (c.before.before.before) in
+    let start = start (c.before.before.before.before) in
     c.full.ensures start.args.links.now
-    ∙ rw c.settings.ensures (answer_then _ _ (accepts (c.before.before.before))
+    ∙ rw c.settings.ensures (answer_then _ _ (accepts (c.before.before.before.before))
     ∙ ap answer_of (batch_parts start.args.h (lent start) start.args.rows.now))
 
 pub batch_spec : {M : Type 1} → statement M

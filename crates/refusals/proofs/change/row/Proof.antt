@@ -33,13 +33,13 @@ unfolding row_refusals row_asked row_shape_refusal
 returns-2 c = rw c.settings-s.ensures (unless_refused _ _ _ (ne_eqb _ _ (rw c.settings-s.ensures at c.if-row-s.true)) ∙ answer_then _ _ (accepts (c.before.before.before)))
 
 full-requires : tie.Need-full-requires
-full-requires c κs = rw c.settings-s.ensures (ready_counts _ _ (ready (c.before.before.before)))
+full-requires c κs = rw c.settings-s.ensures (ready_counts _ _ (ready (c.before.before.before.before)))
 
 returns-3 : tie.Need-returns
 unfolding row_refusals row_asked row_shape_refusal lent_tree
 returns-3 c =
     c.full.ensures c.args.links.now
-    ∙ rw c.settings-s.ensures (unless_passed _ _ _ (eq-eqb _ _ (rw c.settings-s.ensures at c.if-row-s.false)) ∙ answer_then _ _ (accepts (c.before.before.before.before)))
+    ∙ rw c.settings-s.ensures (unless_passed _ _ _ (eq-eqb _ _ (rw c.settings-s.ensures at c.if-row-s.false)) ∙ answer_then _ _ (accepts (c.before.before.before.before.before)))
 
 pub row_spec : {M : Type 1} → statement M
 row_spec = tie.close (tie.spec (λ c κs. search rules) (λ c. search rules) (λ c. search rules) returns (λ c κs. search rules) returns-2 full-requires returns-3)

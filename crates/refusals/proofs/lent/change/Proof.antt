@@ -56,7 +56,7 @@ returns-2 c =
     let start = c.before.before.before.before.before.before.before.before.before.before.before in
     let e : room.result ≡ answer_of (scratch start) = rw (c.scratch_links_needed.ensures, c.scratch_floats_needed.ensures, c.settings-s.ensures) at
     room.ensures in
-    e ∙ answer_first (scratch start) (rest start) (sym e ∙ c.in_default-b.is) ∙ answer_then _ _ (accepts (c.before.before.before.before.before.before)) ∙ ap answer_of (change_parts start.args.h (lent start))
+    e ∙ answer_first (scratch start) (rest start) (sym e ∙ c.in_default-b.is) ∙ answer_then _ _ (accepts (c.before.before.before.before.before)) ∙ ap answer_of (change_parts start.args.h (lent start))
 
 tree-check-requires : tie.Need-tree_check-requires
 tree-check-requires c κs = let g = roomy (c.before.before.before.before.before.before) in rw c.settings-s.ensures (g.sized, g.floats_room, g.links_room)

@@ -33,17 +33,17 @@ shape-requires c κs = some c
 returns-2 : tie.Need-returns-in_default-b
 unfolding settings_of route_refusals route_asked
 returns-2 c =
-    c.shape-b.ensures ∙ answer_first _ _ (sym c.shape-b.ensures ∙ c.in_default-b.is) ∙ answer_then _ _ (accepts (c.before.before.before))
+    c.shape-b.ensures ∙ answer_first _ _ (sym c.shape-b.ensures ∙ c.in_default-b.is) ∙ answer_then _ _ (accepts (c.before.before))
 
 div-routes : tie.Need-nonzero_div-rows
-div-routes c = some (c.before.before.before.before)
+div-routes c = some (c.before.before.before)
 
 returns-3 : tie.Need-returns
 unfolding settings_of lent_tree route_refusals route_asked
 returns-3 c =
     let a = c.args in
     c.routes.ensures (tree_of (settings_of a.h) a.h.counters a.floats.now a.links.now) (count_entries_lem (settings_of a.h) a.h.counters a.floats.now a.links.now)
-    ∙ answer_then _ _ (sym c.shape-b.ensures ∙ c.in-Accepted-b.is) ∙ answer_then _ _ (accepts (c.before.before.before.before.before))
+    ∙ answer_then _ _ (sym c.shape-b.ensures ∙ c.in-Accepted-b.is) ∙ answer_then _ _ (accepts (c.before.before.before.before))
 
 pub route_spec : {M : Type 1} → statement M
 route_spec = tie.close (tie.spec (λ c κs. search rules) (λ c. search rules) (λ c. search rules) returns shape-requires (λ c. search rules) (λ c. search rules) returns-2 div-routes (λ c κs. search rules) returns-3)

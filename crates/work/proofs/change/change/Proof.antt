@@ -60,21 +60,21 @@ scratch-links-needed-requires : tie.Need-scratch_links_needed-sl-requires
 scratch-links-needed-requires c κs = rw c.settings-s.ensures (sized _ _ c.requires.0.0)
 
 part-perform-tidily-end : tie.Need-slice_bounds-perform_tidily-end
-part-perform-tidily-end c = let e = floats-end c in omega arith
+part-perform-tidily-end c = let e = floats-end c.before in omega arith
 
 part-perform-tidily-end-2 : tie.Need-slice_bounds-perform_tidily-end-2
-part-perform-tidily-end-2 c = let e = links_end (c.before) in omega arith
+part-perform-tidily-end-2 c = let e = links_end (c.before.before) in omega arith
 
 part-perform-tidily-end-3 : tie.Need-slice_bounds-perform_tidily-end-3
-part-perform-tidily-end-3 c = let e = scratch-end (c.before.before) in omega arith
+part-perform-tidily-end-3 c = let e = scratch-end (c.before.before.before) in omega arith
 
 part-perform-tidily-end-4 : tie.Need-slice_bounds-perform_tidily-end-4
-part-perform-tidily-end-4 c = let e = numbers-end (c.before.before.before) in omega arith
+part-perform-tidily-end-4 c = let e = numbers-end (c.before.before.before.before) in omega arith
 
 perform-tidily-requires : tie.Need-perform_tidily-n-requires
 perform-tidily-requires c κs =
-    let sizes = c.before.before.before.before in
-    let start = c.before.before.before.before.before.before.before.before.before.before.before.before.before.before in
+    let sizes = c.before.before.before.before.before in
+    let start = c.before.before.before.before.before.before.before.before.before.before.before.before.before.before.before in
     let h = start.args.h in
     let ready = start.requires.0.0 in
     rw c.settings-s.ensures (
@@ -85,8 +85,8 @@ perform-tidily-requires c κs =
 
 returns : tie.Need-returns
 returns c =
-    let sizes = c.before.before.before.before.before.before.before.before.before.before.before.before.before.before in
-    let start = c.before.before.before.before.before.before.before.before.before.before.before.before.before.before.before.before.before.before.before.before.before.before.before.before in
+    let sizes = c.before.before.before.before.before.before.before.before.before.before.before.before.before.before.before in
+    let start = c.before.before.before.before.before.before.before.before.before.before.before.before.before.before.before.before.before.before.before.before.before.before.before.before.before in
     let a = start.args in
     let s = settings_of a.h in
     let new = c.perform_tidily-n in

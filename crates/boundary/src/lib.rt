@@ -1,5 +1,6 @@
 // Heads and answers in the plain numbers that C and Rust can pass.
 #![tactic(auto)]
+
 pub mod given;
 pub mod version;
 

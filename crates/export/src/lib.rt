@@ -1,5 +1,6 @@
 // The public calls for C and Rust: plain numbers, structs of numbers and lent slices in, the same out.
 #![tactic(auto)]
+
 pub mod change;
 pub mod given;
 pub mod look;

@@ -1,5 +1,6 @@
 // Byte by byte and line by line.
 #![tactic(auto)]
+
 ghost use Rattle.std.specs.Prelude.{◌≡◌, [], ◌∷◌, ◌+◌, ◌-◌, ◌≤◌, ◌<◌, length, take};
 ghost use Rattle.lines.specs.declared.Stage.TheVariants as Stages;
 ghost use Rattle.lines.specs.Runs.{Room, Stands, Reading, LineRead, printed_of, printed, Reads, bad_stage, bad_run};

@@ -1,5 +1,6 @@
 // The listing of an input that is there as a whole, `list`, or comes in chunks: `begin`, any number of `feed`, `finish`.
 #![tactic(auto)]
+
 pub mod finish;
 
 ghost use Rattle.std.specs.Prelude.{◌≡◌, ◌≤◌, length};

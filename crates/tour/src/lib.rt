@@ -1,6 +1,7 @@
 // Conditions 4 and 6, the nodes: one walk from the root along the links, into each node of a list that names the list's node as its
 // parent, on to the next of the list, and up when the list is done. Nothing is written.
 #![tactic(auto)]
+
 pub mod depths;
 
 ghost use Rattle.std.specs.Prelude.{◌≡◌, true, ◌<◌, length};

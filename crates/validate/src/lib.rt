@@ -1,5 +1,6 @@
 // The tree check: document 01's eight conditions in their order, with no mark on any node and no write to what is lent.
 #![tactic(auto)]
+
 ghost use Rattle.std.specs.Prelude.{◌≡◌, true, ◌≤◌, length};
 ghost use Rattle.head.specs.Limits.{Sized};
 ghost use Rattle.head.specs.Sizes.{floats_needed, links_needed};

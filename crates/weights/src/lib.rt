@@ -1,5 +1,6 @@
 // Condition 7: entry weights are counts, and each node weighs what its list weighs.
 #![tactic(auto)]
+
 ghost use Rattle.std.specs.Prelude.{◌≡◌, ◌<◌, ◌≤◌, true, length};
 ghost use Rattle.std.specs.Float.Ieee.{to_unsigned};
 ghost use Rattle.binary64.specs.Counts.{is_count};

@@ -1,5 +1,6 @@
 // What a call does with its rows, in slices that are as long as needed.
 #![tactic(auto)]
+
 pub mod change;
 
 ghost use Rattle.std.specs.Prelude.{◌≡◌, ◌*◌, ◌≤◌, length};

@@ -11,7 +11,7 @@ returns : tie.Need-returns
 unfolding bad_run
 returns c =
     let run = c.args.run in
-    let at : Stage → Run = λ st. record { head = run.head-1; stage = st; number = run.number; long = 0 } in
+    let at : Stage → Run = λ st. record { head = run.head; stage = st; number = run.number; long = 0 } in
     ap at c.bad_stage-stage.ensures
 
 pub bad_spec : {M : Type 1} → statement M

@@ -7,20 +7,15 @@ use Rattle.lines.proofs.byte.Tie as tie
 
 returns : tie.Need-returns-then-b-eq10
 returns c =
-    let end_line = c.before.before.before.before.before.before.before.before in
-    let then1 = end_line.before.before.before.before.before.before in
-    let start = then1 in
-    let a = start.args in
-    let w = end_line.end_line.ensures in
-    (line_reading w, newline_read a.run a.line.now a.floats.now a.links.now _ _ _ w a.line.now a.b then1.if-b-eq10.true)
+    let a = c.args in
+    let w = c.end_line.ensures in
+    (line_reading w, newline_read a.run a.line.now a.floats.now a.links.now _ _ _ w a.line.now a.b c.if-b-eq10.true)
 
 returns-2 : tie.Need-returns
 returns-2 c =
-    let else1 = c.before.before.before.before in
-    let start = else1 in
-    let a = start.args in
+    let a = c.args in
     let w = c.push.ensures in
-    (w.reading a.floats.now a.links.now start.requires.1, w.reads a.floats.now a.links.now start.requires.1 else1.if-b-eq10.false)
+    (w.reading a.floats.now a.links.now c.requires.1, w.reads a.floats.now a.links.now c.requires.1 c.if-b-eq10.false)
 
 pub byte_spec : {M : Type 1} → statement M
 byte_spec =

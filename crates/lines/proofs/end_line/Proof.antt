@@ -7,40 +7,30 @@ use Rattle.lines.proofs.end_line.Tie as tie
 
 read-first-requires : tie.Need-read_first-requires
 read-first-requires c κs =
-    let start = c in
-    let a = start.args in (
-      start.requires.0.floats_room,
-      start.requires.0.links_room,
-      stage_stands a.run Stages.First c.in-First.is a.floats.now a.links.now start.requires.1.stands,
+    let a = c.args in (
+      c.requires.0.floats_room,
+      c.requires.0.links_room,
+      stage_stands a.run Stages.First c.in-First.is a.floats.now a.links.now c.requires.1.stands,
     )
 
 read-row-requires : tie.Need-read_row-requires
 read-row-requires c κs =
-    let enum-told2 = c.before.before.before.before.before in
-    let start = enum-told2.before.before.before.before.before.before.before in
-    let a = start.args in
-    (rows_room start.requires.0, stage_stands a.run Stages.Rows enum-told2.in-Rows.is a.floats.now a.links.now start.requires.1.stands)
+    let a = c.args in
+    (rows_room c.requires.0, stage_stands a.run Stages.Rows c.in-Rows.is a.floats.now a.links.now c.requires.1.stands)
 
 returns : tie.Need-returns-in-First
 returns c =
-    let read_first = c.before.before.before.before in
-    let enum_told = read_first.before.before.before.before in
-    let start = enum_told in
-    let a = start.args in
-    stage_read a.run Stages.First enum_told.in-First.is a.floats.now a.links.now a.line.now read_first.read_first.ensures
+    let a = c.args in
+    stage_read a.run Stages.First c.in-First.is a.floats.now a.links.now a.line.now c.read_first.ensures
 
 returns-2 : tie.Need-returns-in-Rows
 returns-2 c =
-    let read-row = c.before.before.before.before.before.before.before.before in
-    let enum-told2 = read-row.before.before.before.before.before.before in
-    let start = enum-told2.before.before.before.before.before.before.before in
-    let a = start.args in
-    stage_read a.run Stages.Rows enum-told2.in-Rows.is a.floats.now a.links.now a.line.now read-row.read_row.ensures
+    let a = c.args in
+    stage_read a.run Stages.Rows c.in-Rows.is a.floats.now a.links.now a.line.now c.read_row.ensures
 
 returns-3 : tie.Need-returns-in-Bad
 returns-3 c =
-    let start = c in
-    let a = start.args in still_bad a.run _ c.bad.ensures _ a.floats.now a.links.now c.in-Bad.is
+    let a = c.args in still_bad a.run _ c.bad.ensures _ a.floats.now a.links.now c.in-Bad.is
 
 pub end_line_spec : {M : Type 1} → statement M
 end_line_spec =

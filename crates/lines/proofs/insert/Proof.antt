@@ -27,7 +27,7 @@ returns c =
 change-requires : tie.Need-change-head-requires
 unfolding Stands settings_of
 change-requires c κs =
-    let else1 = c.before.before.before.before in
+    let else1 = c.before.before.before.before.before in
     let start = else1.before.before.before.before.before.before.before in
     let a = start.args in
     let k : a.run.number ≤ most + 1 = omega (arith, else1.if-run.false) in
@@ -40,7 +40,7 @@ returns-2 : tie.Need-returns
 unfolding Stands
 returns-2 c =
     let change = c.before.before.before.before.before.before.before.before.before in
-    let else1 = change.before.before.before.before.before in
+    let else1 = change.before.before.before.before.before.before in
     let start = else1.before.before.before.before.before.before.before in
     let a = start.args in
     let k : a.run.number ≤ most + 1 = omega (arith, else1.if-run.false) in

@@ -8,30 +8,22 @@ use Rattle.lines.proofs.read_first.Tie as tie
 
 returns : tie.Need-returns-in_default
 returns c =
-    let start = c in
-    let a = start.args in
-    no_head a.run _ c.bad.ensures a.bytes.now a.floats.now a.links.now start.requires.2
+    let a = c.args in
+    no_head a.run _ c.bad.ensures a.bytes.now a.floats.now a.links.now c.requires.2
     (first_none _ (sym c.first_line.ensures ∙ c.in_default.is))
 
 create-requires : tie.Need-create-head-requires
 create-requires c κs =
-    let h = c.before.before.before in
-    let first-line = h.before.before in
-    let start = first-line.before.before.before.before in
-    let a = start.args in
-    roomy _ (first_taken a.bytes.now _ (first_some _ _ (sym first-line.first_line.ensures ∙ h.in-Head.is))) a.floats.now a.links.now
-    start.requires.0 start.requires.1
+    let a = c.args in
+    roomy _ (first_taken a.bytes.now _ (first_some _ _ (sym c.first_line.ensures ∙ c.in-Head.is))) a.floats.now a.links.now
+    c.requires.0 c.requires.1
 
 returns-2 : tie.Need-returns
 returns-2 c =
-    let create = c.before.before.before.before in
-    let h = create.before.before.before.before in
-    let first-line = h.before.before in
-    let start = first-line.before.before.before.before in
-    let a = start.args in
-    let e = first_some _ _ (sym first-line.first_line.ensures ∙ h.in-Head.is) in
-    created_read _ (first_taken a.bytes.now _ e) a.floats.now a.links.now start.requires.0 start.requires.1 a.run a.bytes.now e _
-    create.create-head.ensures
+    let a = c.args in
+    let e = first_some _ _ (sym c.first_line.ensures ∙ c.in-Head.is) in
+    created_read _ (first_taken a.bytes.now _ e) a.floats.now a.links.now c.requires.0 c.requires.1 a.run a.bytes.now e _
+    c.create-head.ensures
 
 pub read_first_spec : {M : Type 1} → statement M
 read_first_spec =

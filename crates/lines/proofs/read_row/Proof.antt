@@ -14,41 +14,30 @@ use Rattle.lines.proofs.read_row.Tie as tie
 row-line-requires : tie.Need-row_line-requires
 unfolding Stands settings_of
 row-line-requires c κs =
-    let start = c in
-    let few = (sizes_of start.requires.1.serving).dim_few in omega arith
+    let few = (sizes_of c.requires.1.serving).dim_few in omega arith
 
 returns : tie.Need-returns-in_default
 returns c =
-    let row_Line = c.before.before.before.before.before in
-    let start = row_Line in
-    let a = start.args in
-    malformed_read a.run a.bytes.now a.floats.now a.links.now _ _ row_Line.row_line.ensures c.in_default.is
+    let a = c.args in
+    malformed_read a.run a.bytes.now a.floats.now a.links.now _ _ c.row_line.ensures c.in_default.is
     _ c.bad.ensures
 
 part-insert-end : tie.Need-slice_bounds-insert-end
 unfolding Stands settings_of
 part-insert-end c =
-    let row_Line = c.before.before.before.before in
-    let start = row_Line in
-    let few = (sizes_of start.requires.1.serving).dim_few in omega (arith, row_Line.row_line.auto.row)
+    let few = (sizes_of c.requires.1.serving).dim_few in omega (arith, c.row_line.auto.row)
 
 insert-requires : tie.Need-insert-requires
 unfolding Stands settings_of
 insert-requires c κs =
-    let row_Line = c.before.before.before.before.before.before.before.before.before in
-    let start = row_Line in
-    let few = (sizes_of start.requires.1.serving).dim_few in
-    (start.requires.0, (start.requires.1, length-take-le _ _ (omega (arith, few, row_Line.row_line.auto.row)) ∙ sub-zero _))
+    let few = (sizes_of c.requires.1.serving).dim_few in
+    (c.requires.0, (c.requires.1, length-take-le _ _ (omega (arith, few, c.row_line.auto.row)) ∙ sub-zero _))
 
 returns-2 : tie.Need-returns
 returns-2 c =
-    let insert = c.before.before.before.before.before.before.before.before in
-    let enum_told = insert.before.before.before.before.before.before.before in
-    let row_Line = enum_told.before.before.before in
-    let start = row_Line in
-    let a = start.args in
-    insert.insert.ensures.reads a.bytes.now
-    (row_says a.run a.bytes.now a.floats.now a.links.now _ _ row_Line.row_line.ensures enum_told.in-Row.is)
+    let a = c.args in
+    c.insert.ensures.reads a.bytes.now
+    (row_says a.run a.bytes.now a.floats.now a.links.now _ _ c.row_line.ensures c.in-Row.is)
 
 pub read_row_spec : {M : Type 1} → statement M
 read_row_spec =

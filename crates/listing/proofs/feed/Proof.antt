@@ -19,59 +19,44 @@ decreases-loop chunk line₀ floats₀ links₀ scratch₀ numbers₀ r₀ i₀ 
 
 loop-holds : tie.Need-loop-i-init invariant-loop decreases-loop
 loop-holds c =
-    let start = c in
-    (search rules, refl, refl, refl, refl, refl, start.requires.1, reads_none _)
+    (search rules, refl, refl, refl, refl, refl, c.requires.1, reads_none _)
 
 piece-requires : tie.Need-piece-p-requires invariant-loop decreases-loop
 piece-requires c κs =
-    let in-loop = c.before.before.before.before.before.before in
-    let turn = in-loop.before in
-    let start = turn in
-    let inv = turn.loop-i.invariant in (
-      rw (inv.1, inv.2, inv.3, inv.4, inv.5) start.requires.0,
+    let inv = c.loop-i.invariant in (
+      rw (inv.1, inv.2, inv.3, inv.4, inv.5) c.requires.0,
       (
         inv.6,
         omega (
           arith,
-          rest_long start.args.chunk.now turn.loop-i.i,
-          in-loop.loop-i-test.true,
+          rest_long c.args.chunk.now c.loop-i.i,
+          c.loop-i-test.true,
         ),
       ),
     )
 
 add-i : tie.Need-overflow_add-i invariant-loop decreases-loop
 add-i c =
-    let piece = c.before.before.before.before.before.before.before.before.before.before.before.before in
-    let in-loop = piece.before.before.before.before.before.before.before in
-    let turn = in-loop.before in
-    let start = turn in
-    let good = start.well_formed in omega (arith, piece.piece-p.ensures.0.1, rest_long start.args.chunk.now turn.loop-i.i, in-loop.loop-i-test.true)
+    let good = c.well_formed in omega (arith, c.piece-p.ensures.0.1, rest_long c.args.chunk.now c.loop-i.i, c.loop-i-test.true)
 
 loop-less : tie.Need-loop-i-smaller invariant-loop decreases-loop
 loop-less c =
-    let piece = c.before.before.before.before.before.before.before.before.before.before.before.before in
-    let in-loop = piece.before.before.before.before.before.before.before in
-    let turn = in-loop.before in
-    let start = turn in
-    omega (arith, piece.piece-p.ensures.0.0, piece.piece-p.ensures.0.1, rest_long start.args.chunk.now turn.loop-i.i, in-loop.loop-i-test.true)
+    omega (arith, c.piece-p.ensures.0.0, c.piece-p.ensures.0.1, rest_long c.args.chunk.now c.loop-i.i, c.loop-i-test.true)
 
 loop-again : tie.Need-loop-i-preserved invariant-loop decreases-loop
 loop-again c =
-    let piece = c.before.before.before.before.before.before.before.before.before.before.before.before in
-    let turn = piece.before.before.before.before.before.before.before.before in
-    let start = turn in
-    let chunk = start.args.chunk.now in
-    let new = piece.piece-p in
+    let chunk = c.args.chunk.now in
+    let new = c.piece-p in
     let kept = new.auto in
-    let loop = turn.loop-i in
+    let loop = c.loop-i in
     let inv = loop.invariant in
     let few : new.result.read ≤ length chunk - loop.i = omega (arith, new.ensures.0.1, rest_long chunk loop.i) in (
       omega (arith, few, inv.0),
-      kept.1.1.0 ∙ inv.1,
-      kept.1.1.1.0 ∙ inv.2,
-      kept.1.1.1.1.0 ∙ inv.3,
-      kept.1.1.1.1.1.0 ∙ inv.4,
-      kept.1.1.1.1.1.1.0 ∙ inv.5,
+      kept.line ∙ inv.1,
+      kept.floats ∙ inv.2,
+      kept.links ∙ inv.3,
+      kept.scratch ∙ inv.4,
+      kept.numbers ∙ inv.5,
       new.ensures.0.2,
       reads_on chunk loop.i new.result.read few inv.7 new.ensures.1,
     )
@@ -93,9 +78,8 @@ same-length-5 c = c.loop-i.invariant.5
 
 returns : tie.Need-returns invariant-loop decreases-loop
 returns c =
-    let start = c in
     let loop = c.loop-i in
-    let chunk = start.args.chunk.now in
+    let chunk = c.args.chunk.now in
     let end : length chunk ≤ loop.i = (let rest = c.loop-i-test.false in omega arith) in
     (loop.invariant.6, reads_all chunk loop.i end loop.invariant.7)
 

@@ -15,8 +15,7 @@ parent-requires c κs = (c.requires.0, c.requires.1)
 list-requires : tie.Need-list-requires
 unfolding parent_of
 list-requires c κs =
-    let parent = c.parent in
-    (
+    let parent = c.parent in (
       c.requires.0,
       rw (← count_nodes_lem c.args.s c.args.n [] c.args.links.now)
           (c.requires.2 [] c.in-Node.p (sym (parent.ensures []) ∙ ap parent_of c.in-Node.is)),

@@ -30,15 +30,14 @@ mul_left c =
 
 loop-holds : tie.Need-loop-left-init invariant-loop decreases-loop
 unfolding tree_of
-loop-holds c =
-    (
-      (at_root c.args.s c.args.n [] c.args.links.now (c.requires.2 [])).0,
-      omega arith,
-      omega arith,
-      λ fs. (at_root c.args.s c.args.n fs c.args.links.now (c.requires.2 fs)).1,
-      λ fs. go_start (tree_of c.args.s c.args.n fs c.args.links.now)
-          (rw (count_nodes_lem c.args.s c.args.n fs c.args.links.now)) (rw (← c.new.ensures) (c.meet-depths.ensures fs)),
-    )
+loop-holds c = (
+  (at_root c.args.s c.args.n [] c.args.links.now (c.requires.2 [])).0,
+  omega arith,
+  omega arith,
+  λ fs. (at_root c.args.s c.args.n fs c.args.links.now (c.requires.2 fs)).1,
+  λ fs. go_start (tree_of c.args.s c.args.n fs c.args.links.now)
+      (rw (count_nodes_lem c.args.s c.args.n fs c.args.links.now)) (rw (← c.new.ensures) (c.meet-depths.ensures fs)),
+)
 
 next-requires : tie.Need-next-requires invariant-loop decreases-loop
 next-requires c κs =
@@ -58,8 +57,7 @@ add-met c =
 meet-requires-2 : tie.Need-meet-depths-requires-in-Down invariant-loop decreases-loop
 meet-requires-2 c κs =
     let loop = c.loop-left in
-    let next = c.next in
-    (
+    let next = c.next in (
       c.requires.0,
       (down_there c.args.s c.args.n [] c.args.links.now (c.requires.1 []) (c.requires.2 []) loop.at loop.k loop.d
           c.in-Down.c (sym (next.ensures []) ∙ c.in-Down.is) loop.invariant.0 (loop.invariant.3 [])).0,
@@ -92,26 +90,27 @@ loop-again c =
     let loop = c.loop-left in
     let next = c.next in
     let some = c.loop-left-test.true in elim c.match-next.branch [
-      in-Down w ↦ (
-      rw w.at-is (down_there c.args.s c.args.n [] c.args.links.now (c.requires.1 []) (c.requires.2 []) loop.at loop.k
-          loop.d w.in-Down.c (sym (next.ensures []) ∙ w.in-Down.is) loop.invariant.0 (loop.invariant.3 [])).0,
-      omega (arith, w.d-is, loop.invariant.1, some),
-      omega (arith, w.met-is, loop.invariant.2, some),
-      λ fs. rw (w.at-is, w.d-is) (down_there c.args.s c.args.n fs c.args.links.now (c.requires.1 fs) (c.requires.2 fs) loop.at loop.k
-          loop.d w.in-Down.c (sym (next.ensures fs) ∙ w.in-Down.is) loop.invariant.0 (loop.invariant.3 fs)).1,
-      λ fs. go_down _ loop.left loop.at loop.k loop.d loop.met loop.depths some (loop.invariant.4 fs) (next.ensures fs) w.in-Down.is
-          w.at-is w.k-is w.d-is w.met-is (w.depths-is ∙ w.meet-depths-in-Down.ensures fs),
-    )
-    | in-Up w ↦ (
-      rw w.at-is (up_there c.args.s c.args.n [] c.args.links.now loop.at loop.k loop.d w.in-Up.p _
-          (sym (next.ensures []) ∙ w.in-Up.is) (loop.invariant.3 [])).0,
-      omega (arith, w.d-is, loop.invariant.1, some),
-      omega (arith, w.met-is, loop.invariant.2, some),
-      λ fs. rw (w.at-is, w.d-is) (up_there c.args.s c.args.n fs c.args.links.now loop.at loop.k loop.d w.in-Up.p _
-          (sym (next.ensures fs) ∙ w.in-Up.is) (loop.invariant.3 fs)).2,
-      λ fs. go_up _ loop.left loop.at loop.k loop.d loop.met loop.depths some (loop.invariant.4 fs) (next.ensures fs) w.in-Up.is
-          w.at-is w.k-is w.d-is w.met-is w.depths-is,
-    ) ]
+      | in-Down w ↦ (
+        rw w.at-is (down_there c.args.s c.args.n [] c.args.links.now (c.requires.1 []) (c.requires.2 []) loop.at loop.k
+            loop.d w.in-Down.c (sym (next.ensures []) ∙ w.in-Down.is) loop.invariant.0 (loop.invariant.3 [])).0,
+        omega (arith, w.d-is, loop.invariant.1, some),
+        omega (arith, w.met-is, loop.invariant.2, some),
+        λ fs. rw (w.at-is, w.d-is) (down_there c.args.s c.args.n fs c.args.links.now (c.requires.1 fs) (c.requires.2 fs) loop.at loop.k
+            loop.d w.in-Down.c (sym (next.ensures fs) ∙ w.in-Down.is) loop.invariant.0 (loop.invariant.3 fs)).1,
+        λ fs. go_down _ loop.left loop.at loop.k loop.d loop.met loop.depths some (loop.invariant.4 fs) (next.ensures fs) w.in-Down.is
+            w.at-is w.k-is w.d-is w.met-is (w.depths-is ∙ w.meet-depths-in-Down.ensures fs),
+      )
+      | in-Up w ↦ (
+        rw w.at-is (up_there c.args.s c.args.n [] c.args.links.now loop.at loop.k loop.d w.in-Up.p _
+            (sym (next.ensures []) ∙ w.in-Up.is) (loop.invariant.3 [])).0,
+        omega (arith, w.d-is, loop.invariant.1, some),
+        omega (arith, w.met-is, loop.invariant.2, some),
+        λ fs. rw (w.at-is, w.d-is) (up_there c.args.s c.args.n fs c.args.links.now loop.at loop.k loop.d w.in-Up.p _
+            (sym (next.ensures fs) ∙ w.in-Up.is) (loop.invariant.3 fs)).2,
+        λ fs. go_up _ loop.left loop.at loop.k loop.d loop.met loop.depths some (loop.invariant.4 fs) (next.ensures fs) w.in-Up.is
+            w.at-is w.k-is w.d-is w.met-is w.depths-is,
+      )
+    ]
 
 returns-3 : tie.Need-returns invariant-loop decreases-loop
 returns-3 c =

@@ -9,37 +9,29 @@ use Rattle.listing.proofs.finish.print.Tie as tie
 
 sub-write-report : tie.Need-overflow_sub-run
 sub-write-report c =
-    let start = c in
-    let a = start.args in
-    omega (arith, grown-total (rows_stand a.run a.floats.now a.links.now c.in-Rows.is start.requires.2))
+    let a = c.args in
+    omega (arith, grown-total (rows_stand a.run a.floats.now a.links.now c.in-Rows.is c.requires.2))
 
 write-report-requires : tie.Need-write_report-requires
 write-report-requires c κs =
-    let start = c in
-    let a = start.args in (
-      reportable (rows_stand a.run a.floats.now a.links.now c.in-Rows.is start.requires.2) start.requires.0,
-      start.requires.1,
+    let a = c.args in (
+      reportable (rows_stand a.run a.floats.now a.links.now c.in-Rows.is c.requires.2) c.requires.0,
+      c.requires.1,
     )
 
 returns : tie.Need-returns-in-First
 returns c =
-    let enum_told = c.before.before.before.before in
-    let start = enum_told in
-    let a = start.args in wrote_is (first_end a.run a.floats.now a.links.now enum_told.in-First.is start.requires.2)
+    let a = c.args in wrote_is (first_end a.run a.floats.now a.links.now c.in-First.is c.requires.2)
     c.write_bad.ensures
 
 returns-2 : tie.Need-returns-in-Rows
 returns-2 c =
-    let enum-told2 = c.before.before.before.before.before in
-    let start = enum-told2.before.before.before.before.before in
-    let a = start.args in wrote_is (rows_end a.run a.floats.now a.links.now enum-told2.in-Rows.is)
+    let a = c.args in wrote_is (rows_end a.run a.floats.now a.links.now c.in-Rows.is)
     c.write_report.ensures
 
 returns-3 : tie.Need-returns-in-Bad
 returns-3 c =
-    let enum-told3 = c.before.before.before.before in
-    let start = enum-told3.before.before.before.before.before in
-    let a = start.args in wrote_is (bad_end a.run a.floats.now a.links.now enum-told3.in-Bad.is)
+    let a = c.args in wrote_is (bad_end a.run a.floats.now a.links.now c.in-Bad.is)
     c.write_bad-in-Bad.ensures
 
 pub print_spec : {M : Type 1} → statement M

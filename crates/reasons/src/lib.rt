@@ -1,5 +1,6 @@
 // Why a line of the listing's input is bad: the first rule that it breaks.
 #![tactic(auto)]
+
 pub mod settings;
 
 ghost use Rattle.std.specs.Prelude.{◌≡◌, length};

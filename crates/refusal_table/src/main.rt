@@ -1,6 +1,7 @@
 // Each refusal of each call, the readings at the limits and each condition of the tree check, with the answers that the
 // library gives. '!' stands behind one where a refused call changed what was lent.
 #![tactic(auto)]
+
 mod asking;
 mod conditions;
 mod lending;

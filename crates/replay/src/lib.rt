@@ -1,5 +1,6 @@
 // What the replaying programs share: words of standard input, and the report.
 #![tactic(auto)]
+
 pub mod words;
 
 use libc::STDOUT_FILENO;

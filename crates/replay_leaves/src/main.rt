@@ -1,6 +1,7 @@
 // Takes steps over a tree's entries whose answers were made from the Rust, and prints the number of each one that differs, then how
 // many there were.
 #![tactic(auto)]
+
 mod vectors;
 
 use crate::vectors::Outcome;

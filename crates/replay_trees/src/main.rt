@@ -1,6 +1,7 @@
 // Checks trees whose verdicts were made from the second reading of document 01, and prints the number of each one that differs,
 // then how many there were.
 #![tactic(auto)]
+
 mod vectors;
 
 use crate::vectors::Outcome;

@@ -1,5 +1,6 @@
 // What the listing prints: the bad line, or the report of a tree.
 #![tactic(auto)]
+
 pub mod entries;
 pub mod fields;
 

@@ -1,5 +1,6 @@
 // The listing program: reads standard input of any length, and prints its listing.
 #![tactic(auto)]
+
 mod arguments;
 mod messages;
 

@@ -1,5 +1,6 @@
 // Lists several inputs: standard input has one after the other, a NUL byte behind each, and an empty line follows each listing.
 #![tactic(auto)]
+
 ghost use Rattle.std.specs.Prelude.{◌≤◌, length};
 
 use libc::{STDIN_FILENO, STDOUT_FILENO};

@@ -1,5 +1,6 @@
 // Lines of the listing: what a line's bytes say, and the bytes that say a number.
 #![tactic(auto)]
+
 pub mod digits;
 pub mod fields;
 pub mod heads;

@@ -1,11 +1,11 @@
 // The program's arguments: it takes none but --help.
-use libc::{STDERR_FILENO, STDOUT_FILENO};
+use std::env::{Env, FillError};
+use std::io;
 use text::words;
 
 // The form of the input, and what is printed.
-fn help() {
-    io::write_all(
-        STDOUT_FILENO,
+fn help(rt: &impl Print) -> io::Result<()> {
+    rt.write_all(
         b"usage: rowlist < INPUT
 
 Inserts the rows of its input into a CF-tree, and lists the tree's entries.
@@ -31,21 +31,26 @@ rows, its means (dim floats) and its deviations (spherical one, diagonal dim).
 The first line that is malformed, refused or too long ends the run: `bad`, a tab and
 the number of this line are all that is printed. Standard error has the reason.
 ",
-    );
+    )
+}
+
+// Whether the program was given an argument k, from 1.
+pub fn has(rt: &impl Env, k: usize) -> bool {
+    let mut word = [0u8; 8];
+    match rt.arg(k, &mut word) {
+        Ok(_) => true,
+        Err(FillError::TooLong) => true,
+        Err(FillError::NotPresent) => false,
+    }
 }
 
 // What the arguments ask for.
-pub fn answer() {
+pub fn answer(rt: &(impl Env + Print + Eprint)) -> io::Result<()> {
     let mut word = [0u8; 8];
-    let n = os::arg(1, &mut word);
-    if os::arg_count() == 2 {
-        if words::is(&word[..n], b"--help") {
-            help();
-            return;
+    if let Ok(n) = rt.arg(1, &mut word) {
+        if words::is(&word[..n], b"--help") && !has(rt, 2) {
+            return help(rt);
         }
     }
-    io::write_all(
-        STDERR_FILENO,
-        b"rowlist: it takes no arguments but --help\n",
-    );
+    rt.eprint("rowlist: it takes no arguments but --help\n")
 }

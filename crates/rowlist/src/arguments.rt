@@ -1,11 +1,10 @@
 // The program's arguments: it takes none but --help.
 use std::env::{Env, FillError};
-use std::io;
 use text::words;
 
 // The form of the input, and what is printed.
-fn help(rt: &impl Print) -> io::Result<()> {
-    rt.write_all(
+fn help(rt: &impl Print) {
+    let _ = rt.write_all(
         b"usage: rowlist < INPUT
 
 Inserts the rows of its input into a CF-tree, and lists the tree's entries.
@@ -31,7 +30,7 @@ rows, its means (dim floats) and its deviations (spherical one, diagonal dim).
 The first line that is malformed, refused or too long ends the run: `bad`, a tab and
 the number of this line are all that is printed. Standard error has the reason.
 ",
-    )
+    );
 }
 
 // Whether the program was given an argument k, from 1.
@@ -45,12 +44,13 @@ pub fn has(rt: &impl Env, k: usize) -> bool {
 }
 
 // What the arguments ask for.
-pub fn answer(rt: &(impl Env + Print + Eprint)) -> io::Result<()> {
+pub fn answer(rt: &(impl Env + Print + Eprint)) {
     let mut word = [0u8; 8];
     if let Ok(n) = rt.arg(1, &mut word) {
         if words::is(&word[..n], b"--help") && !has(rt, 2) {
-            return help(rt);
+            help(rt);
+            return;
         }
     }
-    rt.eprint("rowlist: it takes no arguments but --help\n")
+    let _ = rt.eprint("rowlist: it takes no arguments but --help\n");
 }

@@ -10,7 +10,6 @@ ghost use Rattle.lines.specs.Runs.{Room, Reading};
 use lines::{Run, Stage};
 use listing::finish::finish;
 use reports::PAGE;
-use std::io;
 use std::io::Read;
 
 // What was read of standard input.
@@ -58,7 +57,8 @@ fn read(
 }
 
 // The listing of standard input. The slices have room for M 24, dim 8, branching and leaf_cap 16.
-fn list(rt: &HostRuntime) -> io::Result<()> {
+// Where standard error can't be written, nothing is left to tell.
+fn list(rt: &HostRuntime) {
     let mut chunk = [0u8; 65536];
     let mut line = [0u8; 200];
     let mut floats = [0.0; 5950];
@@ -76,7 +76,8 @@ fn list(rt: &HostRuntime) -> io::Result<()> {
         &mut numbers,
     );
     if !input.whole {
-        return rt.eprint("rowlist: standard input can't be read to its end\n");
+        let _ = rt.eprint("rowlist: standard input can't be read to its end\n");
+        return;
     }
     let end = finish(
         input.run,
@@ -89,14 +90,16 @@ fn list(rt: &HostRuntime) -> io::Result<()> {
     );
     let n = end.long;
     if rt.write_all(&out[0..n]).is_err() {
-        return rt.eprint("rowlist: the listing can't be written\n");
+        let _ = rt.eprint("rowlist: the listing can't be written\n");
+        return;
     }
-    messages::tell(end.run, &rt.stderr())
+    let _ = messages::tell(end.run, &rt.stderr());
 }
 
-fn main(rt: HostRuntime) -> io::Result<()> {
+fn main(rt: HostRuntime) {
     if arguments::has(&rt, 1) {
-        return arguments::answer(&rt);
+        arguments::answer(&rt);
+        return;
     }
-    list(&rt)
+    list(&rt);
 }

@@ -9,5 +9,5 @@ merge-requires c =
       floats,
       omega (arith, two),
       rw (c.summary-b.ensures [])
-      (entry_shaped c.args.s floats.sized c.args.n c.args.floats.now [] 1 (omega (arith, two))),
+          (entry_shaped c.args.s floats.sized c.args.n c.args.floats.now [] 1 (omega (arith, two))),
     )

@@ -6,6 +6,7 @@ use crate::{lending, printing};
 use cftree::{change, look};
 use head::Head;
 use head::refusal::Answer;
+use std::io;
 
 // The bits of all numbers, folded: other numbers give another fold, as good as always.
 fn fold_floats(start: u64, l: &[f64]) -> u64 {
@@ -79,26 +80,28 @@ fn ask_look(
 }
 
 // '!' where what was lent to a refused call is not as it was.
-fn print_mark(a: Answer, before: u64, after: u64) {
+fn print_mark(rt: &impl Print, a: Answer, before: u64, after: u64) -> io::Result<()> {
     if before == after {
-        return;
+        return Ok(());
     }
     if !printing::is_accepted(a) {
-        printing::print(b"!");
+        return printing::print(rt, b"!");
     }
+    Ok(())
 }
 
 // The answer with its mark, as wide as its column; nothing follows the last column.
-fn print_kept(c: Case, a: Answer, before: u64, after: u64) {
-    printing::print_answer(a);
-    print_mark(a, before, after);
+fn print_kept(rt: &impl Print, c: Case, a: Answer, before: u64, after: u64) -> io::Result<()> {
+    printing::print_answer(rt, a)?;
+    print_mark(rt, a, before, after)?;
     if c.inside == 0 {
-        printing::print_blanks(a);
+        return printing::print_blanks(rt, a);
     }
+    Ok(())
 }
 
 // The case, on a tree made for it, with scratch and outputs that are not zero.
-pub fn print_case(c: Case) {
+pub fn print_case(rt: &impl Print, c: Case) -> io::Result<()> {
     let mut floats = [0.0; 85];
     let mut links = [0u32; 57];
     let mut scratch = [0.0; 34];
@@ -120,6 +123,7 @@ pub fn print_case(c: Case) {
     let h = lending::lent_head(c, made);
     if c.call < 4 {
         print_change(
+            rt,
             c,
             h,
             &mut floats,
@@ -127,13 +131,14 @@ pub fn print_case(c: Case) {
             &mut scratch,
             &mut numbers,
             &rows,
-        );
+        )
     } else {
-        print_look(c, h, &floats, &links, &rows, &mut routes, &mut spreads);
+        print_look(rt, c, h, &floats, &links, &rows, &mut routes, &mut spreads)
     }
 }
 
 fn print_change(
+    rt: &impl Print,
     c: Case,
     h: Head,
     floats: &mut [f64],
@@ -141,7 +146,7 @@ fn print_change(
     scratch: &mut [f64],
     numbers: &mut [u32],
     rows: &[f64],
-)
+) -> io::Result<()>
     requires { (length floats.old ≡ 85) × (length links.old ≡ 57) × (length scratch.old ≡ 34) × (length rows.now ≡ 8) }
 {
     let before = fold(floats, links, scratch, numbers);
@@ -159,10 +164,11 @@ fn print_change(
         &rows[0..r],
     );
     let after = fold(floats, links, scratch, numbers);
-    print_kept(c, a, before, after);
+    print_kept(rt, c, a, before, after)
 }
 
 fn print_look(
+    rt: &impl Print,
     c: Case,
     h: Head,
     floats: &[f64],
@@ -170,7 +176,7 @@ fn print_look(
     rows: &[f64],
     routes: &mut [u32],
     spreads: &mut [f64],
-)
+) -> io::Result<()>
     requires floats_len { (length floats.now ≡ 85) × (length links.now ≡ 57) × (length rows.now ≡ 8) }
     requires routes_len { (length routes.old ≡ 1) × (length spreads.old ≡ 8) }
 {
@@ -190,5 +196,5 @@ fn print_look(
         &mut spreads[0..p],
     );
     let after = fold_links(fold_floats(1, spreads), routes);
-    print_kept(c, a, before, after);
+    print_kept(rt, c, a, before, after)
 }

@@ -5,40 +5,47 @@ use crate::printing::{print, print_answer};
 use cftree::{change, look};
 use head::refusal::Answer;
 use head::{Counters, Head};
+use std::io;
 
 // What is damaged for a condition, as wide as its column; 0 is none.
-fn print_damage(condition: u32) {
+fn print_damage(rt: &impl Print, condition: u32) -> io::Result<()> {
     match condition {
-        0 => print(b"nothing: three rows, two leaves   "),
-        1 => print(b"the head counts no node           "),
-        2 => print(b"the head's root is no node        "),
-        3 => print(b"a leaf lists an entry not there   "),
-        4 => print(b"an entry listed under two leaves  "),
-        5 => print(b"an empty root that is no leaf     "),
-        6 => print(b"a root that lists one leaf alone  "),
-        7 => print(b"the root weighs 2, its entry 1    "),
-        _ => print(b"merged is M                       "),
+        0 => print(rt, b"nothing: three rows, two leaves   "),
+        1 => print(rt, b"the head counts no node           "),
+        2 => print(rt, b"the head's root is no node        "),
+        3 => print(rt, b"a leaf lists an entry not there   "),
+        4 => print(rt, b"an entry listed under two leaves  "),
+        5 => print(rt, b"an empty root that is no leaf     "),
+        6 => print(rt, b"a root that lists one leaf alone  "),
+        7 => print(rt, b"the root weighs 2, its entry 1    "),
+        _ => print(rt, b"merged is M                       "),
     }
 }
 
 // The condition in the header's words.
-fn print_words(condition: u32) {
+fn print_words(rt: &impl Print, condition: u32) -> io::Result<()> {
     match condition {
-        0 => print(b"1 to 8 hold"),
-        1 => print(b"1  node count 1 to N, entry count 0 to M"),
-        2 => print(b"2  the root exists and has no parent"),
-        3 => print(b"3  no list is over its cap; every child number exists"),
+        0 => print(rt, b"1 to 8 hold"),
+        1 => print(rt, b"1  node count 1 to N, entry count 0 to M"),
+        2 => print(rt, b"2  the root exists and has no parent"),
+        3 => print(rt, b"3  no list is over its cap; every child number exists"),
         4 => print(
+            rt,
             b"4  every node is reached from the root once, by the parent it names; every entry is in one leaf list, once",
         ),
-        5 => print(b"5  no list is empty, but for a lone root leaf with no entries"),
+        5 => print(
+            rt,
+            b"5  no list is empty, but for a lone root leaf with no entries",
+        ),
         6 => print(
+            rt,
             b"6  all leaves are equally deep, and each level has more nodes than the level above it",
         ),
         7 => print(
+            rt,
             b"7  entry weights are whole, 1 to 2^53; each node's weight is the sum of those beneath it; the total is at most 2^53",
         ),
-        _ => print(b"8  merged is below M"),
+        _ => print(rt, b"8  merged is below M"),
     }
 }
 
@@ -151,30 +158,35 @@ fn answer(condition: u32) -> Answer {
 }
 
 // A line: the answer, the damage, the condition.
-fn print_line(condition: u32) {
+fn print_line(rt: &impl Print, condition: u32) -> io::Result<()> {
     let a = answer(condition);
-    print_answer(a);
+    print_answer(rt, a)?;
     if condition == 0 {
-        print(b"  ");
+        print(rt, b"  ")?;
     } else {
-        print(b"    ");
+        print(rt, b"    ")?;
     }
-    print_damage(condition);
-    print_words(condition);
-    print(b"\n");
+    print_damage(rt, condition)?;
+    print_words(rt, condition)?;
+    print(rt, b"\n")
 }
 
-fn print_heading() {
+fn print_heading(rt: &impl Print) -> io::Result<()> {
     print(
+        rt,
         b"\nThe tree check's conditions: validate's answer to a small tree with one of them broken\n",
-    );
-    print(b"answer    damaged                           condition\n");
+    )?;
+    print(
+        rt,
+        b"answer    damaged                           condition\n",
+    )
 }
 
 // A tree that passes, then each condition in its turn.
-pub fn print_conditions() {
-    print_heading();
+pub fn print_conditions(rt: &impl Print) -> io::Result<()> {
+    print_heading(rt)?;
     for condition in 0..9 {
-        print_line(condition);
+        print_line(rt, condition)?;
     }
+    Ok(())
 }

@@ -7,7 +7,7 @@ use head::Head;
 use head::refusal::Answer;
 
 // The call by its number, up to two faults by their refusals' numbers, and the refusal that it is just inside of; 0 is none.
-#[derive(Drop)]
+#[derive(Clone, Copy)]
 pub struct Case {
     pub call: u32,
     pub fault: u32,

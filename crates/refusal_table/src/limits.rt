@@ -3,16 +3,17 @@ use crate::printing::{print, print_answer};
 use cftree::change;
 use head::Head;
 use head::refusal::Answer;
+use std::io;
 
 // A line: the call and its answer.
-fn print_reading(call: &[u8], a: Answer) {
-    print(call);
-    print_answer(a);
-    print(b"\n");
+fn print_reading(rt: &impl Print, call: &[u8], a: Answer) -> io::Result<()> {
+    print(rt, call)?;
+    print_answer(rt, a)?;
+    print(rt, b"\n")
 }
 
 // A tree of total 2^53 − 1: one row is accepted, and the next is FULL.
-fn print_total() {
+fn print_total(rt: &impl Print) -> io::Result<()> {
     let mut floats = [0.0; 15];
     let mut links = [0u32; 15];
     let mut scratch = [0.0; 6];
@@ -48,12 +49,12 @@ fn print_total() {
     );
     let a = last.answer;
     let b = over.answer;
-    print_reading(b"a row into a tree of 2^53 - 1 rows  ", a);
-    print_reading(b"a row into a tree of 2^53 rows      ", b);
+    print_reading(rt, b"a row into a tree of 2^53 - 1 rows  ", a)?;
+    print_reading(rt, b"a row into a tree of 2^53 rows      ", b)
 }
 
 // M 256 in slices just as long as it needs, and M 257.
-fn print_most() {
+fn print_most(rt: &impl Print) -> io::Result<()> {
     let mut floats = [0.0; 100230];
     let mut links = [0u32; 165765];
     let most = Head::new(1, 2, 1, 256, 0, 0, 0, 0.0);
@@ -62,13 +63,13 @@ fn print_most() {
     let refused = change::create(over, &mut floats, &mut links);
     let a = made.answer;
     let b = refused.answer;
-    print_reading(b"a tree of M 256                     ", a);
-    print_reading(b"a tree of M 257                     ", b);
+    print_reading(rt, b"a tree of M 256                     ", a)?;
+    print_reading(rt, b"a tree of M 257                     ", b)
 }
 
-pub fn print_limits() {
-    print(b"\nAt the limits\n");
-    print(b"call                                answer\n");
-    print_total();
-    print_most();
+pub fn print_limits(rt: &impl Print) -> io::Result<()> {
+    print(rt, b"\nAt the limits\n")?;
+    print(rt, b"call                                answer\n")?;
+    print_total(rt)?;
+    print_most(rt)
 }

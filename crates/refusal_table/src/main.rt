@@ -11,6 +11,7 @@ mod printing;
 use crate::asking::print_case;
 use crate::lending::Case;
 use crate::printing::print;
+use std::io;
 
 // The refusals that a call can give, as a line of the table has them; 0 where there is none. A refit's sixth would take 2^53 rows.
 fn refusal(call: u32, k: u32) -> u32 {
@@ -39,68 +40,85 @@ fn pick(a: u32, b: u32, c: u32, d: u32, e: u32, f: u32, k: u32) -> u32 {
 }
 
 // One line: the call, the refusal, and the three answers.
-fn print_line(call: u32, fault: u32, next: u32) {
-    crate::printing::print_name(call);
-    crate::printing::print_fault(fault);
-    print_case(Case {
-        call,
-        fault,
-        other: 0,
-        inside: 0,
-    });
-    if next == 0 {
-        print(b"-                 ");
-    } else {
-        print_case(Case {
+fn print_line(rt: &impl Print, call: u32, fault: u32, next: u32) -> io::Result<()> {
+    crate::printing::print_name(rt, call)?;
+    crate::printing::print_fault(rt, fault)?;
+    print_case(
+        rt,
+        Case {
             call,
             fault,
-            other: next,
+            other: 0,
             inside: 0,
-        });
+        },
+    )?;
+    if next == 0 {
+        print(rt, b"-                 ")?;
+    } else {
+        print_case(
+            rt,
+            Case {
+                call,
+                fault,
+                other: next,
+                inside: 0,
+            },
+        )?;
     }
-    print_case(Case {
-        call,
-        fault: 0,
-        other: 0,
-        inside: fault,
-    });
-    print(b"\n");
+    print_case(
+        rt,
+        Case {
+            call,
+            fault: 0,
+            other: 0,
+            inside: fault,
+        },
+    )?;
+    print(rt, b"\n")
 }
 
 // The lines of one call.
-fn print_call(call: u32) {
+fn print_call(rt: &impl Print, call: u32) -> io::Result<()> {
     for k in 0..6 {
         let fault = refusal(call, k);
         if fault != 0 {
-            print_line(call, fault, refusal(call, k + 1));
+            print_line(rt, call, fault, refusal(call, k + 1))?;
         }
     }
+    Ok(())
 }
 
 // What stands in the columns of the calls.
-fn print_heading() {
+fn print_heading(rt: &impl Print) -> io::Result<()> {
     print(
+        rt,
         b"Each call with each refusal that it can give, in order of checking: its answer to an input with that fault alone, to one\n",
-    );
+    )?;
     print(
+        rt,
         b"with the next fault too, and to one just inside the limit. TREE has the lowest condition that fails, SHAPE dim and a row's\n",
-    );
+    )?;
     print(
+        rt,
         b"length or what a batch leaves over. An ! behind an answer: the refused call changed what was lent.\n",
-    );
-    print(b"call          refusal     that fault alone  the next one too  just inside\n");
+    )?;
+    print(
+        rt,
+        b"call          refusal     that fault alone  the next one too  just inside\n",
+    )
 }
 
 // The lines of every call.
-fn print_calls() {
-    print_heading();
+fn print_calls(rt: &impl Print) -> io::Result<()> {
+    print_heading(rt)?;
     for call in 0..8 {
-        print_call(call);
+        print_call(rt, call)?;
     }
+    Ok(())
 }
 
-fn main() {
-    print_calls();
-    crate::limits::print_limits();
-    crate::conditions::print_conditions();
+fn main(rt: HostRuntime) -> io::Result<()> {
+    print_calls(&rt)?;
+    crate::limits::print_limits(&rt)?;
+    crate::conditions::print_conditions(&rt)
 }

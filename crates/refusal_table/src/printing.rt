@@ -1,69 +1,69 @@
 // What the tables print: names, answers, columns.
 use head::refusal::{Answer, Refusal};
-use libc::STDOUT_FILENO;
+use std::io;
 
-pub fn print(text: &[u8]) {
-    io::write_all(STDOUT_FILENO, text);
+pub fn print(rt: &impl Print, text: &[u8]) -> io::Result<()> {
+    rt.write_all(text)
 }
 
-pub fn print_number(n: u64) {
-    io::print_decimal(STDOUT_FILENO, n);
+pub fn print_number(rt: &impl Print, n: u64) -> io::Result<()> {
+    rt.print(n)
 }
 
 // A call's name, as wide as its column.
-pub fn print_name(call: u32) {
+pub fn print_name(rt: &impl Print, call: u32) -> io::Result<()> {
     match call {
-        0 => print(b"create        "),
-        1 => print(b"insert_row    "),
-        2 => print(b"insert_batch  "),
-        3 => print(b"refit         "),
-        4 => print(b"route         "),
-        5 => print(b"validate      "),
-        6 => print(b"entries       "),
-        _ => print(b"spread        "),
+        0 => print(rt, b"create        "),
+        1 => print(rt, b"insert_row    "),
+        2 => print(rt, b"insert_batch  "),
+        3 => print(rt, b"refit         "),
+        4 => print(rt, b"route         "),
+        5 => print(rt, b"validate      "),
+        6 => print(rt, b"entries       "),
+        _ => print(rt, b"spread        "),
     }
 }
 
 // A refusal's number and name, as wide as their column.
-pub fn print_fault(fault: u32) {
+pub fn print_fault(rt: &impl Print, fault: u32) -> io::Result<()> {
     match fault {
-        1 => print(b"1 SETTINGS  "),
-        2 => print(b"2 ROOM      "),
-        3 => print(b"3 TREE      "),
-        4 => print(b"4 SHAPE     "),
-        5 => print(b"5 EMPTY     "),
-        6 => print(b"6 FULL      "),
-        _ => print(b"7 OUTPUT    "),
+        1 => print(rt, b"1 SETTINGS  "),
+        2 => print(rt, b"2 ROOM      "),
+        3 => print(rt, b"3 TREE      "),
+        4 => print(rt, b"4 SHAPE     "),
+        5 => print(rt, b"5 EMPTY     "),
+        6 => print(rt, b"6 FULL      "),
+        _ => print(rt, b"7 OUTPUT    "),
     }
 }
 
-fn print_shape(dim: usize, long: usize) {
-    print(b"SHAPE ");
-    print_number(dim as u64);
-    print(b" ");
-    print_number(long as u64);
+fn print_shape(rt: &impl Print, dim: usize, long: usize) -> io::Result<()> {
+    print(rt, b"SHAPE ")?;
+    print_number(rt, dim as u64)?;
+    print(rt, b" ")?;
+    print_number(rt, long as u64)
 }
 
-fn print_refusal(r: Refusal) {
+fn print_refusal(rt: &impl Print, r: Refusal) -> io::Result<()> {
     match r {
-        Refusal::Settings => print(b"SETTINGS"),
-        Refusal::Room => print(b"ROOM"),
+        Refusal::Settings => print(rt, b"SETTINGS"),
+        Refusal::Room => print(rt, b"ROOM"),
         Refusal::Tree(condition) => {
-            print(b"TREE ");
-            print_number(condition as u64);
+            print(rt, b"TREE ")?;
+            print_number(rt, condition as u64)
         }
-        Refusal::Shape(dim, long) => print_shape(dim, long),
-        Refusal::Empty => print(b"EMPTY"),
-        Refusal::Full => print(b"FULL"),
-        Refusal::Output => print(b"OUTPUT"),
+        Refusal::Shape(dim, long) => print_shape(rt, dim, long),
+        Refusal::Empty => print(rt, b"EMPTY"),
+        Refusal::Full => print(rt, b"FULL"),
+        Refusal::Output => print(rt, b"OUTPUT"),
     }
 }
 
 // The refusal's name and values.
-pub fn print_answer(a: Answer) {
+pub fn print_answer(rt: &impl Print, a: Answer) -> io::Result<()> {
     match a {
-        Answer::Accepted => print(b"accepted"),
-        Answer::Refused(r) => print_refusal(r),
+        Answer::Accepted => print(rt, b"accepted"),
+        Answer::Refused(r) => print_refusal(rt, r),
     }
 }
 
@@ -81,18 +81,19 @@ fn letters(r: Refusal) -> usize {
 }
 
 // Blanks behind so many letters, up to the end of a column of 18.
-fn fill(letters: usize) {
+fn fill(rt: &impl Print, letters: usize) -> io::Result<()> {
     let blanks = [b' '; 18];
     if letters < 18 {
-        print(&blanks[letters..18]);
+        return print(rt, &blanks[letters..18]);
     }
+    Ok(())
 }
 
 // Blanks behind an answer, up to the end of its column.
-pub fn print_blanks(a: Answer) {
+pub fn print_blanks(rt: &impl Print, a: Answer) -> io::Result<()> {
     match a {
-        Answer::Accepted => fill(8),
-        Answer::Refused(r) => fill(letters(r)),
+        Answer::Accepted => fill(rt, 8),
+        Answer::Refused(r) => fill(rt, letters(r)),
     }
 }
 

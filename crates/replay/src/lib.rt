@@ -1,22 +1,19 @@
 // What the replaying programs share: words of standard input, and the report.
 #![tactic(auto)]
 
+pub mod reading;
 pub mod words;
 
-use libc::STDOUT_FILENO;
+use std::io;
 
-pub fn print_number(n: u64) {
-    io::print_decimal(STDOUT_FILENO, n);
-    io::write_all(STDOUT_FILENO, b"\n");
+pub fn print_number(rt: &impl Print, n: u64) -> io::Result<()> {
+    println!(rt; "{n}")
 }
 
-pub fn print_count(vectors: u64, differ: u64) {
-    io::print_decimal(STDOUT_FILENO, vectors);
-    io::write_all(STDOUT_FILENO, b" vectors, ");
-    io::print_decimal(STDOUT_FILENO, differ);
-    io::write_all(STDOUT_FILENO, b" differ\n");
+pub fn print_count(rt: &impl Print, vectors: u64, differ: u64) -> io::Result<()> {
+    println!(rt; "{vectors} vectors, {differ} differ")
 }
 
-pub fn print_malformed() {
-    io::write_all(STDOUT_FILENO, b"malformed\n");
+pub fn print_malformed(rt: &impl Print) -> io::Result<()> {
+    println!(rt; "malformed")
 }

@@ -1,7 +1,8 @@
 // Words of standard input: 16 lowercase hex digits, and the byte that parts a word from what follows.
-use libc::STDIN_FILENO;
+use crate::reading::read_full;
+use std::io::Read;
 
-#[derive(Drop)]
+#[derive(Clone, Copy)]
 pub enum Word {
     Number(u64),
     // The input ends before the word begins.
@@ -39,10 +40,10 @@ fn spelled(text: &[u8; 17], after: u8) -> Word {
     }
 }
 
-// The next word, which `after` has to follow.
-pub fn next(after: u8) -> Word {
+// The next word of the input, which `after` has to follow.
+pub fn next(input: &mut impl Read, after: u8) -> Word {
     let mut text = [0u8; 17];
-    let n = io::read_full(STDIN_FILENO, &mut text);
+    let n = read_full(input, &mut text);
     match n {
         0 => Word::End,
         17 => spelled(&text, after),

@@ -12,8 +12,9 @@ use arena::entries;
 use head::{Counters, Head, Settings};
 use replay::words;
 use replay::words::Word;
+use std::io::Read;
 
-#[derive(Drop)]
+#[derive(Clone, Copy)]
 pub enum Outcome {
     Agrees,
     Differs,
@@ -23,22 +24,22 @@ pub enum Outcome {
 }
 
 // The first three words of a vector.
-#[derive(Drop)]
+#[derive(Clone, Copy)]
 enum Heading {
     Of(u64, u64, u64),
     End,
     Malformed,
 }
 
-fn begun() -> Heading {
-    match words::next(b' ') {
+fn begun(input: &mut impl Read) -> Heading {
+    match words::next(input, b' ') {
         Word::End => Heading::End,
         Word::Malformed => Heading::Malformed,
         Word::Number(step) => {
-            let Word::Number(f) = words::next(b' ') else {
+            let Word::Number(f) = words::next(input, b' ') else {
                 return Heading::Malformed;
             };
-            let Word::Number(dim) = words::next(b' ') else {
+            let Word::Number(dim) = words::next(input, b' ') else {
                 return Heading::Malformed;
             };
             Heading::Of(step, f, dim)
@@ -47,11 +48,11 @@ fn begun() -> Heading {
 }
 
 // Reads the numbers of p, of which the last ends its line, and answers whether they were there.
-fn fill(p: &mut [f64]) -> bool {
+fn fill(input: &mut impl Read, p: &mut [f64]) -> bool {
     let n = p.len();
     for i in 0..n {
         let after = if i + 1 == n { b'\n' } else { b' ' };
-        let Word::Number(bits) = words::next(after) else {
+        let Word::Number(bits) = words::next(input, after) else {
             return false;
         };
         p[i] = binary64::of_bits(bits);
@@ -60,13 +61,13 @@ fn fill(p: &mut [f64]) -> bool {
 }
 
 // Reads the numbers of a vector to slots 3 to 5, w floats each: a, b, and a summary or one number.
-fn read(step: u64, w: usize, floats: &mut [f64]) -> bool
+fn read(input: &mut impl Read, step: u64, w: usize, floats: &mut [f64]) -> bool
     requires { (1 ≤ w) × (6 * w ≤ length floats.old) }
 {
     if step < 2 {
-        return fill(&mut floats[3 * w..6 * w]);
+        return fill(input, &mut floats[3 * w..6 * w]);
     }
-    fill(&mut floats[3 * w..5 * w + 1])
+    fill(input, &mut floats[3 * w..5 * w + 1])
 }
 
 // Takes step 0 or 1: entry 0 becomes its answer.
@@ -123,12 +124,12 @@ fn agrees(step: u64, s: Settings, n: Counters, floats: &mut [f64]) -> bool
 }
 
 // Reads the numbers of a vector and takes its step.
-fn taken(step: u64, s: Settings) -> Outcome
+fn taken(input: &mut impl Read, step: u64, s: Settings) -> Outcome
     requires { Sized s × (s.max_leaves ≡ 1) }
 {
     let n = Counters::new(0.0).with_entries(2);
     let mut floats = [0.0; 102];
-    if !read(step, s.slot_width(), &mut floats) {
+    if !read(input, step, s.slot_width(), &mut floats) {
         return Outcome::Malformed;
     }
     if agrees(step, s, n, &mut floats) {
@@ -139,7 +140,7 @@ fn taken(step: u64, s: Settings) -> Outcome
 }
 
 // The same where the heading's numbers are those of a vector. Steps 2 to 7 and 8 to 13 have the distances in the head's order.
-fn tried(step: u64, f: u64, dim: u64) -> Outcome {
+fn tried(input: &mut impl Read, step: u64, f: u64, dim: u64) -> Outcome {
     if step > 14 || f > 1 {
         return Outcome::Malformed;
     }
@@ -148,13 +149,13 @@ fn tried(step: u64, f: u64, dim: u64) -> Outcome {
     if !h.is_allowed() {
         return Outcome::Malformed;
     }
-    taken(step, h.settings())
+    taken(input, step, h.settings())
 }
 
 // Reads the next vector and takes its step.
-pub fn next() -> Outcome {
-    match begun() {
-        Heading::Of(step, f, dim) => tried(step, f, dim),
+pub fn next(input: &mut impl Read) -> Outcome {
+    match begun(input) {
+        Heading::Of(step, f, dim) => tried(input, step, f, dim),
         Heading::End => Outcome::End,
         Heading::Malformed => Outcome::Malformed,
     }

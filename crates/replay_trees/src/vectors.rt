@@ -10,8 +10,9 @@ use head::{Counters, Head, Settings};
 use replay::words;
 use replay::words::Word;
 use rules::Verdict;
+use std::io::Read;
 
-#[derive(Drop)]
+#[derive(Clone, Copy)]
 pub enum Outcome {
     Agrees,
     Differs,
@@ -28,8 +29,8 @@ const MOST_FLOATS: usize = 5950;
 const MOST_LINKS: usize = 6175;
 
 // The next number of a vector; where there is none, the largest, which stands in no vector.
-fn word() -> u64 {
-    let Word::Number(x) = words::next(b' ') else {
+fn word(input: &mut impl Read) -> u64 {
+    let Word::Number(x) = words::next(input, b' ') else {
         return u64::MAX;
     };
     x
@@ -57,15 +58,15 @@ fn put_float(floats: &mut [f64], at: usize, bits: u64) -> bool {
 }
 
 // Reads the numbers of a list to the links from `at` on.
-fn read_list(links: &mut [u32], at: usize) -> bool
+fn read_list(input: &mut impl Read, links: &mut [u32], at: usize) -> bool
     requires { at ≤ 65536 }
 {
-    let len = word();
+    let len = word(input);
     if len > 17 {
         return false;
     }
     for k in 0..len as usize {
-        if !put_link(links, at + k, word()) {
+        if !put_link(links, at + k, word(input)) {
             return false;
         }
     }
@@ -73,23 +74,35 @@ fn read_list(links: &mut [u32], at: usize) -> bool
 }
 
 // Reads a node to the slot and the block that begin there.
-fn read_node(floats: &mut [f64], slot: usize, links: &mut [u32], block: usize) -> bool
+fn read_node(
+    input: &mut impl Read,
+    floats: &mut [f64],
+    slot: usize,
+    links: &mut [u32],
+    block: usize,
+) -> bool
     requires { block ≤ 65000 }
 {
-    if !put_float(floats, slot, word()) {
+    if !put_float(floats, slot, word(input)) {
         return false;
     }
-    if !put_link(links, block, word()) {
+    if !put_link(links, block, word(input)) {
         return false;
     }
-    if !put_link(links, block + 1, word()) {
+    if !put_link(links, block + 1, word(input)) {
         return false;
     }
-    read_list(links, block + 2)
+    read_list(input, links, block + 2)
 }
 
 // Reads nodes to the first slots and blocks.
-fn read_nodes(s: Settings, count: u64, floats: &mut [f64], links: &mut [u32]) -> bool
+fn read_nodes(
+    input: &mut impl Read,
+    s: Settings,
+    count: u64,
+    floats: &mut [f64],
+    links: &mut [u32],
+) -> bool
     requires { Sized s }
 {
     if count > MOST_NODES {
@@ -98,7 +111,7 @@ fn read_nodes(s: Settings, count: u64, floats: &mut [f64], links: &mut [u32]) ->
     let mut slot = 0;
     let mut block = 0;
     for i in 0..count {
-        if !read_node(floats, slot, links, block) {
+        if !read_node(input, floats, slot, links, block) {
             return false;
         }
         slot += s.slot_width();
@@ -108,7 +121,7 @@ fn read_nodes(s: Settings, count: u64, floats: &mut [f64], links: &mut [u32]) ->
 }
 
 // Reads the weights of entries to the slots past the nodes'.
-fn read_entries(s: Settings, count: u64, floats: &mut [f64]) -> bool
+fn read_entries(input: &mut impl Read, s: Settings, count: u64, floats: &mut [f64]) -> bool
     requires { Sized s }
 {
     if count > MOST_NODES {
@@ -116,7 +129,7 @@ fn read_entries(s: Settings, count: u64, floats: &mut [f64]) -> bool
     }
     let mut slot = s.node_cap() * s.slot_width();
     for i in 0..count {
-        if !put_float(floats, slot, word()) {
+        if !put_float(floats, slot, word(input)) {
             return false;
         }
         slot += s.slot_width();
@@ -133,10 +146,16 @@ fn number(v: Verdict) -> u64 {
 }
 
 // Checks a tree and compares the verdict with the word that ends the vector.
-fn compared(s: Settings, n: Counters, floats: &[f64], links: &[u32]) -> Outcome
+fn compared(
+    input: &mut impl Read,
+    s: Settings,
+    n: Counters,
+    floats: &[f64],
+    links: &[u32],
+) -> Outcome
     requires { Sized s × (floats_needed s ≤ length floats.now) × (links_needed s ≤ length links.now) }
 {
-    let Word::Number(expected) = words::next(b'\n') else {
+    let Word::Number(expected) = words::next(input, b'\n') else {
         return Outcome::Malformed;
     };
     if number(validate::validate(s, n, floats, links)) == expected {
@@ -147,7 +166,7 @@ fn compared(s: Settings, n: Counters, floats: &[f64], links: &[u32]) -> Outcome
 }
 
 // Reads nodes and entries and checks the tree.
-fn checked(s: Settings, n: Counters) -> Outcome
+fn checked(input: &mut impl Read, s: Settings, n: Counters) -> Outcome
     requires { Sized s }
 {
     if s.floats_needed() > MOST_FLOATS {
@@ -159,23 +178,23 @@ fn checked(s: Settings, n: Counters) -> Outcome
     let nothing = 0.0 / 0.0;
     let mut floats = [nothing; MOST_FLOATS];
     let mut links = [0xffff_ffffu32; MOST_LINKS];
-    let nodes = word();
-    let entries = word();
-    if !read_nodes(s, nodes, &mut floats, &mut links) {
+    let nodes = word(input);
+    let entries = word(input);
+    if !read_nodes(input, s, nodes, &mut floats, &mut links) {
         return Outcome::Malformed;
     }
-    if !read_entries(s, entries, &mut floats) {
+    if !read_entries(input, s, entries, &mut floats) {
         return Outcome::Malformed;
     }
-    compared(s, n, &floats, &links)
+    compared(input, s, n, &floats, &links)
 }
 
 // The counters of a vector.
-fn counters() -> Counters {
-    let nodes = word() as usize;
-    let entries = word() as usize;
-    let root = word() as usize;
-    let merged = word() as usize;
+fn counters(input: &mut impl Read) -> Counters {
+    let nodes = word(input) as usize;
+    let entries = word(input) as usize;
+    let root = word(input) as usize;
+    let merged = word(input) as usize;
     Counters::new(0.0)
         .with_nodes(nodes)
         .with_entries(entries)
@@ -184,23 +203,23 @@ fn counters() -> Counters {
 }
 
 // Reads the rest of a vector that begins with dim, and checks its tree.
-fn begun(dim: u64) -> Outcome {
-    let branching = word() as usize;
-    let leaf_cap = word() as usize;
-    let max_leaves = word() as usize;
+fn begun(input: &mut impl Read, dim: u64) -> Outcome {
+    let branching = word(input) as usize;
+    let leaf_cap = word(input) as usize;
+    let max_leaves = word(input) as usize;
     let h = Head::new(dim as usize, branching, leaf_cap, max_leaves, 0, 0, 0, 0.0);
     if !h.is_allowed() {
         return Outcome::Malformed;
     }
-    let n = counters();
-    checked(h.settings(), n)
+    let n = counters(input);
+    checked(input, h.settings(), n)
 }
 
 // Reads the next vector and checks its tree.
-pub fn next() -> Outcome {
-    match words::next(b' ') {
+pub fn next(input: &mut impl Read) -> Outcome {
+    match words::next(input, b' ') {
         Word::End => Outcome::End,
         Word::Malformed => Outcome::Malformed,
-        Word::Number(dim) => begun(dim),
+        Word::Number(dim) => begun(input, dim),
     }
 }

@@ -1,11 +1,10 @@
 // The program's arguments: it takes none but --help.
-use libc::{STDERR_FILENO, STDOUT_FILENO};
+use std::env::{Env, FillError};
 use text::words;
 
 // The form of the input, and what is printed.
-fn help() {
-    io::write_all(
-        STDOUT_FILENO,
+fn help(rt: &impl Print) {
+    let _ = rt.write_all(
         b"usage: rowlist < INPUT
 
 Inserts the rows of its input into a CF-tree, and lists the tree's entries.
@@ -34,18 +33,24 @@ the number of this line are all that is printed. Standard error has the reason.
     );
 }
 
-// What the arguments ask for.
-pub fn answer() {
+// Whether the program was given an argument k, from 1.
+pub fn has(rt: &impl Env, k: usize) -> bool {
     let mut word = [0u8; 8];
-    let n = os::arg(1, &mut word);
-    if os::arg_count() == 2 {
-        if words::is(&word[..n], b"--help") {
-            help();
+    match rt.arg(k, &mut word) {
+        Ok(_) => true,
+        Err(FillError::TooLong) => true,
+        Err(FillError::NotPresent) => false,
+    }
+}
+
+// What the arguments ask for.
+pub fn answer(rt: &(impl Env + Print + Eprint)) {
+    let mut word = [0u8; 8];
+    if let Ok(n) = rt.arg(1, &mut word) {
+        if words::is(&word[..n], b"--help") && !has(rt, 2) {
+            help(rt);
             return;
         }
     }
-    io::write_all(
-        STDERR_FILENO,
-        b"rowlist: it takes no arguments but --help\n",
-    );
+    let _ = rt.eprint("rowlist: it takes no arguments but --help\n");
 }

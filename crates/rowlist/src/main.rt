@@ -7,10 +7,10 @@ mod messages;
 ghost use Rattle.std.specs.Prelude.{length};
 ghost use Rattle.lines.specs.Runs.{Room, Reading};
 
-use libc::{STDERR_FILENO, STDIN_FILENO, STDOUT_FILENO};
 use lines::{Run, Stage};
 use listing::finish::finish;
 use reports::PAGE;
+use std::io::Read;
 
 // What was read of standard input.
 #[derive(Drop)]
@@ -23,6 +23,7 @@ struct Input {
 // Standard input, chunk after chunk, until a line is bad: what follows changes nothing (`bad_chunks_listed` of listing, Chunks).
 // No input has 2^64 chunks, but a loop has to end.
 fn read(
+    source: &mut impl Read,
     chunk: &mut [u8],
     line: &mut [u8],
     floats: &mut [f64],
@@ -37,12 +38,13 @@ fn read(
     let mut whole = false;
     let mut chunks: u64 = 0;
     while chunks < u64::MAX {
-        let got = libc::read(STDIN_FILENO, chunk);
-        if got < 1 {
-            whole = got == 0;
+        let Ok(n) = source.read(chunk) else {
+            break;
+        };
+        if n == 0 {
+            whole = true;
             break;
         }
-        let n = io::count(got, chunk);
         run = listing::feed(run, &chunk[0..n], line, floats, links, scratch, numbers);
         let stage = run.stage;
         if let Stage::Bad(_) = stage {
@@ -55,8 +57,9 @@ fn read(
 }
 
 // The listing of standard input. The slices have room for M 24, dim 8, branching and leaf_cap 16.
-fn list() {
-    let mut chunk = io::large_buffer();
+// Where standard error can't be written, nothing is left to tell.
+fn list(rt: &HostRuntime) {
+    let mut chunk = [0u8; 65536];
     let mut line = [0u8; 200];
     let mut floats = [0.0; 5950];
     let mut links = [0u32; 6175];
@@ -64,6 +67,7 @@ fn list() {
     let mut numbers = [0u32; 75];
     let mut out = [0u8; PAGE];
     let input = read(
+        &mut rt.stdin(),
         &mut chunk,
         &mut line,
         &mut floats,
@@ -72,10 +76,7 @@ fn list() {
         &mut numbers,
     );
     if !input.whole {
-        io::write_all(
-            STDERR_FILENO,
-            b"rowlist: standard input can't be read to its end\n",
-        );
+        let _ = rt.eprint("rowlist: standard input can't be read to its end\n");
         return;
     }
     let end = finish(
@@ -88,17 +89,17 @@ fn list() {
         &mut out,
     );
     let n = end.long;
-    if !io::write_all(STDOUT_FILENO, &out[0..n]) {
-        io::write_all(STDERR_FILENO, b"rowlist: the listing can't be written\n");
+    if rt.write_all(&out[0..n]).is_err() {
+        let _ = rt.eprint("rowlist: the listing can't be written\n");
         return;
     }
-    messages::tell(end.run);
+    let _ = messages::tell(end.run, &rt.stderr());
 }
 
-fn main() {
-    if os::arg_count() > 1 {
-        arguments::answer();
+fn main(rt: HostRuntime) {
+    if arguments::has(&rt, 1) {
+        arguments::answer(&rt);
         return;
     }
-    list();
+    list(&rt);
 }

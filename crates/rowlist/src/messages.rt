@@ -2,9 +2,9 @@
 ghost use Rattle.std.specs.Prelude.{◌≤◌, length};
 ghost use Rattle.io.specs.Counts.{IsPrefixLen};
 
-use libc::STDERR_FILENO;
 use lines::{Run, Stage};
 use reasons::Reason;
+use std::io::Result;
 
 // A text behind the first n bytes of a message, as far as there is room; gives the message's length. No message is as long.
 fn put(text: &[u8], message: &mut [u8], n: usize) -> usize
@@ -148,10 +148,10 @@ fn put_why(run: Run, message: &mut [u8], n: usize) -> usize
 }
 
 // The reason of a bad run that has ended, and nothing of any other.
-pub fn tell(run: Run) {
+pub fn tell(run: Run, to: &impl Print) -> Result<()> {
     let stage = run.stage;
     if let Stage::Rows = stage {
-        return;
+        return Ok(());
     }
     let mut message = [0u8; 200];
     let n = put(b"rowlist: line ", &mut message, 0);
@@ -159,5 +159,5 @@ pub fn tell(run: Run) {
     let n = put(b": ", &mut message, n);
     let n = put_why(run, &mut message, n);
     let n = put(b"\n", &mut message, n);
-    io::write_all(STDERR_FILENO, &message[..n]);
+    to.write_all(&message[..n])
 }

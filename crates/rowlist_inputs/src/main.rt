@@ -3,8 +3,9 @@
 
 ghost use Rattle.std.specs.Prelude.{◌≤◌, length};
 
-use libc::{STDIN_FILENO, STDOUT_FILENO};
+use replay::reading::read_full;
 use reports::PAGE;
+use std::io;
 
 // Where the input that begins at a place ends: the next NUL byte, or the end.
 fn end_of(bytes: &[u8], from: usize) -> usize
@@ -22,28 +23,29 @@ fn end_of(bytes: &[u8], from: usize) -> usize
 }
 
 // The listing of one input.
-fn print_one(input: &[u8], out: &mut [u8]) {
+fn print_one(rt: &impl Print, input: &[u8], out: &mut [u8]) -> io::Result<()> {
     let listed = listing::list(input, out);
     let long = listed.long;
-    io::write_all(STDOUT_FILENO, &out[0..long]);
-    io::write_all(STDOUT_FILENO, b"\n");
+    rt.write_all(&out[0..long])?;
+    rt.write_all(b"\n")
 }
 
 // The listings of all inputs, each in the output that the one before left.
-fn print_all(bytes: &[u8], out: &mut [u8])
+fn print_all(rt: &impl Print, bytes: &[u8], out: &mut [u8]) -> io::Result<()>
     requires { length bytes.now ≤ 65536 }
 {
     let mut from = 0;
     while from < bytes.len() {
         let end = end_of(bytes, from);
-        print_one(&bytes[from..end], out);
+        print_one(rt, &bytes[from..end], out)?;
         from = end + 1;
     }
+    Ok(())
 }
 
-fn main() {
-    let mut bytes = io::large_buffer();
+fn main(rt: HostRuntime) -> io::Result<()> {
+    let mut bytes = [0u8; 65536];
     let mut out = [0u8; PAGE];
-    let n = io::read_full(STDIN_FILENO, &mut bytes);
-    print_all(&bytes[0..n], &mut out);
+    let n = read_full(&mut rt.stdin(), &mut bytes);
+    print_all(&rt, &bytes[0..n], &mut out)
 }

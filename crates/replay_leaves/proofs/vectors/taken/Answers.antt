@@ -1,8 +1,6 @@
--- `vectors::taken` meets what its callees ask: a tree of M 1 has five slots, of 17 floats at most, and the sixth is the answer's.
-use Prim.Native.Nat.{ℕ, ◌*◌, ◌≤◌}
-use mathlib.Core.Path.{◌≡◌, refl, ap, ◌∙◌}
-use native.Mathlib.Omega.{arith}
-use borrow.Author.Rules.{rules}
+-- A tree of M 1 has five slots, of 17 floats at most, and the sixth is the answer's.
+use Rattle.std.proofs.Common.{ℕ, ◌≡◌, ◌*◌, ◌≤◌, ap, ◌∙◌, arith}
+use Rattle.std.proofs.Math.Path.{refl}
 use Rattle.binary64.specs.Operators.{f0}
 use Rattle.head.specs.declared.Settings.{Settings}
 use Rattle.head.specs.declared.Counters.{Counters}
@@ -11,8 +9,7 @@ use Rattle.head.specs.Heads.{new_counters}
 use Rattle.head.specs.Counting.{count_entries}
 use Rattle.head.specs.Sizes.{node_cap, entry_cap, slot_width, floats_needed, nodes_some}
 use Rattle.arena.specs.Trees.{Floats}
-use Rattle.replay_leaves.proofs.vectors.taken.Statement.{statement}
-use Rattle.replay_leaves.proofs.vectors.taken.Tie as tie
+use Rattle.replay_leaves.proofs.vectors.taken.Goals as goal
 
 -- the floats of a tree with two entries, and of one slot more
 room : (s : Settings) (n : Counters) (l : ℕ) → Sized s → s.max_leaves ≡ 1 → n ≡ count_entries 2 (new_counters f0) → l ≡ 102
@@ -23,23 +20,14 @@ room s n l z e c k =
     rw (c, k)
     (record { sized = z; nodes_in = nodes_some s; entries_in = rw e (omega arith); room = rw e (omega arith) }, refl, omega arith)
 
-read-requires : tie.Need-read-requires
+pub read-requires : goal.read-requires
 unfolding slot_width
-read-requires c κs =
+read-requires g c =
     let w = c.slot_width.ensures in
     let d = c.requires.0.dim_few in
     (omega arith, omega arith)
 
-agrees-requires : tie.Need-agrees-requires
-agrees-requires c κs =
-    let start = c in
-    let new = c.new in
-    let n = c.with_entries-n in
-    room start.args.s n.result _ start.requires.0 start.requires.1 (n.ensures ∙ ap (count_entries 2) new.ensures)
-    c.read.auto.floats
-
-pub taken_spec : {M : Type 1} → statement M
-taken_spec =
-    tie.close
-    (tie.spec (λ c κs. search rules) (λ c κs. search rules) (λ c κs. search rules) (λ c. search rules) read-requires (λ c. search rules)
-    (λ c. search rules) agrees-requires (λ c. search rules) (λ c. search rules))
+pub agrees-requires : goal.agrees-requires
+agrees-requires g c =
+    room c.args.s c.with_entries-n.result _ c.requires.0 c.requires.1
+    (c.with_entries-n.ensures ∙ ap (count_entries 2) c.new.ensures) c.read.auto.floats

@@ -18,7 +18,7 @@ use Rattle.rules.specs.Check.{known, list_fits, once_each, leaf_lists}
 use Rattle.rules.specs.Slices.{tree_of}
 use Rattle.arena.specs.Trees.{count_nodes_lem, count_entries_lem}
 use Rattle.counting.specs.Count.{is, is_same, lt?, below, below_in, below_out, below-le}
-use Rattle.counting.specs.Sums.{over, length_over, over-same, sum_to, sum_full, sum-some}
+use Rattle.counting.specs.Sums.{length_over, over-same, sum_to, sum_full, sum-some}
 use Rattle.laws.specs.Check.Accept.{occurs-sum, once_back}
 use Rattle.laws.specs.Check.Passing.{every_up, once_each_lem}
 use Rattle.lists.specs.Loops.{fails_at, passed_all, sum-none, sum_more, sum_grows, occurs-places}

@@ -1,5 +1,5 @@
 -- What the walk keeps of the nodes that it meets: the depths of leaves, inner nodes and forks, and the deepest.
-use Rattle.std.specs.Prelude.{ℕ, ◌+◌, ◌-◌, ◌≤◌, ◌<◌, min, max, ◌⊎◌, ◌≢◌, Bool, cond, not, ltb, length}
+use Rattle.std.specs.Prelude.{ℕ, ◌+◌, ◌≤◌, ◌<◌, min, max, ◌⊎◌, ◌≢◌, Bool, cond, not, ltb, length}
 use Rattle.std.proofs.Math.Path.{◌≡◌, refl}
 use Rattle.std.proofs.Common.{ap, ◌∙◌, arith, lt-ltb, le-ltb}
 use Rattle.std.proofs.Math.Logic.{inl, inr}

@@ -1,6 +1,6 @@
 -- Conditions 4 and 6 as the walk tells them are document 01's.
 use Prim.Native.Nat.{ℕ, zero, suc, ◌+◌, ◌*◌, ◌≤◌, ◌<◌, min}
-use Rattle.std.specs.Prelude.{◌≡◌, ◌⊎◌, ◌&&◌, not, T, ltb, eqb}
+use Rattle.std.specs.Prelude.{◌≡◌, ◌⊎◌, ◌&&◌, T, ltb, eqb}
 use Rattle.std.proofs.Math.Path.{refl, subst}
 use Rattle.std.proofs.Common.{sym, ap, ap₂, ◌∙◌, inl, inr, eq-eqb, ne_eqb, lt-ltb, le-ltb}
 use Rattle.std.proofs.Math.Bool.{Bool}

@@ -1,7 +1,6 @@
 -- `descent::nearest_child` meets its contract: what is left of the list, from the nearest so far, leads to the nearest of the whole.
 use Prim.Native.Nat.{◌-◌, ◌<◌}
 use mathlib.Core.Path.{◌≡◌, sym, ◌∙◌}
-use mathlib.Core.Logic.{inl, inr}
 use native.Mathlib.Omega.{arith}
 use borrow.Author.Rules.{rules}
 use lib.ListN.{length}

@@ -4,7 +4,7 @@ use borrow.Author.Rules.{rules}
 use borrow.Author.Tests.{le-leb, lt-leb}
 use lib.Dec.{ltb}
 use Rattle.rules.specs.Lists.{every}
-use Rattle.rules.specs.Tree.{node_at, cap}
+use Rattle.rules.specs.Tree.{node_at}
 use Rattle.rules.specs.Slices.{tree_of}
 use Rattle.rules.specs.Check.{list_fits}
 use Rattle.lists.proofs.list_fits.Statement.{statement}

@@ -1,9 +1,7 @@
 -- `rebuild::compact` meets its contract: the merged-away entries dropped, and the others placed again where it is due.
-use Prim.Native.Nat.{zero}
 use mathlib.Core.Path.{sym, ap, ◌∙◌, subst}
 use native.Mathlib.Omega.{arith}
 use borrow.Author.Rules.{rules}
-use lib.ListN.{drop, set}
 use Rattle.rebuild.specs.Counted.{zero_same, floats_as, links_as, merged-zero, placed-again, left-placed}
 use Rattle.merging.specs.Numbering.{floats-kept, links_kept}
 use Rattle.reinsert.specs.Whole.{Reinsertable}

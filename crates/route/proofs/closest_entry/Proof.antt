@@ -1,7 +1,6 @@
 -- `route::closest_entry` meets its contract: what is left of the list, from the closest so far, leads to the closest of the whole.
 use Prim.Native.Nat.{◌-◌, ◌<◌}
 use mathlib.Core.Path.{◌≡◌, sym, ◌∙◌}
-use mathlib.Core.Logic.{inl, inr}
 use native.Mathlib.Omega.{arith}
 use borrow.Author.Rules.{rules}
 use lib.ListN.{length}

@@ -1,7 +1,6 @@
 -- `descent::leaf::search_leaf` meets its contract: what is left of the list, from what is found so far, leads to what the whole gives.
 use Prim.Native.Nat.{◌-◌}
 use mathlib.Core.Path.{◌≡◌, sym, ◌∙◌}
-use mathlib.Core.Logic.{inl, inr}
 use native.Mathlib.Omega.{arith}
 use borrow.Author.Rules.{rules}
 use lib.ListN.{length}

@@ -5,7 +5,6 @@ use mathlib.Core.Bool.{Bool, true}
 use mathlib.Core.List.{List, ◌∷◌, ◌++◌, map}
 use native.Mathlib.Omega.{arith}
 use lib.ListN.{length, get_or, length-set}
-use mathlib.Core.Logic.{inl, inr}
 use Rattle.feature.specs.declared.Summary.{Summary}
 use Rattle.head.specs.Sizes.{entry_cap}
 use Rattle.rules.specs.Tree.{Tree, node_at, entry_at}

@@ -1,7 +1,7 @@
 -- `descent::path::feed_path` meets its contract: the way up that is left from node i, in the tree as it is, gives the whole path fed.
+use Rattle.std.specs.Prelude.{Some, None}
 use Prim.Native.Nat.{◌-◌, ◌<◌}
 use mathlib.Core.Path.{◌≡◌, refl, sym, ◌∙◌}
-use mathlib.Core.Option.{some, none}
 use native.Mathlib.Omega.{arith}
 use borrow.Author.Rules.{rules}
 use lib.ListN.{length}
@@ -18,7 +18,7 @@ use Rattle.descent.proofs.path.feed_path.Tie as tie
 abbrev invariant-loop : tie.invariant-loop-left
 invariant-loop s n floats₀ links leaf form x i₀ left₀ floats i left =
     (i < n.nodes) × (length floats ≡ length floats₀)
-    × (climbed_from (item_of s form x).taken left (some i) (tree_of s n floats links) ≡ along_path (item_of s form x).taken leaf (tree_of s n floats₀ links))
+    × (climbed_from (item_of s form x).taken left (Some i) (tree_of s n floats links) ≡ along_path (item_of s form x).taken leaf (tree_of s n floats₀ links))
 
 abbrev decreases-loop : tie.decreases-loop-left
 decreases-loop s n floats₀ links leaf form x i₀ left₀ floats i left = left
@@ -49,7 +49,7 @@ returns c =
     let loop = (turn c.before).loop-left in
     let top = sym (no_parent_lem _ c.in_default.is) ∙ c.parent.ensures loop.floats in
     let fed = c.feed.ensures _ in
-    sym (up_top _ (loop.left - 1) _) ∙ up_on _ loop.left loop.i _ _ none (omega arith) fed top ∙ loop.invariant.2
+    sym (up_top _ (loop.left - 1) _) ∙ up_on _ loop.left loop.i _ _ None (omega arith) fed top ∙ loop.invariant.2
 
 loop-again : tie.Need-loop-left-preserved invariant-loop decreases-loop
 loop-again c =
@@ -66,7 +66,7 @@ loop-again c =
 
 returns-2 : tie.Need-returns invariant-loop decreases-loop
 returns-2 c =
-    let loop = c.loop-left in sym (up_end _ loop.left (some loop.i) _ (omega arith)) ∙ loop.invariant.2
+    let loop = c.loop-left in sym (up_end _ loop.left (Some loop.i) _ (omega arith)) ∙ loop.invariant.2
 
 pub feed_path_spec : {M : Type 1} → statement M
 feed_path_spec =

@@ -46,11 +46,10 @@ module _ (f : Summary → Summary) where
   up_start k i t e = rw e
 
   -- u is the tree with node i changed, o the parent that it has in t
-  pub up_on : (k i : ℕ) (t u : Tree) (o : Option ℕ) → 0 < k → u ≡ on_node (summed f) i t → o ≡ (node_at t i).parent
-      → climbed_from f (k - 1) o u ≡ climbed_from f k (Some i) t
+  pub up_on : (k j i : ℕ) (t u : Tree) (o : Option ℕ) → k ≡ suc j → u ≡ on_node (summed f) i t → o ≡ (node_at t i).parent
+      → climbed_from f j o u ≡ climbed_from f k (Some i) t
   unfolding climbed_from climbed on_node with_nodes node_at
-  up_on zero i t u o l p q = absurd (omega arith)
-  up_on (suc k) i t u o l p q = let e : suc k - 1 ≡ k = omega arith in rw (p, q, e)
+  up_on k j i t u o l p q = rw (p, q, l)
 
   pub up_top : (k : ℕ) (t : Tree) → climbed_from f k None t ≡ t
   unfolding climbed_from climbed with_nodes

@@ -1,6 +1,7 @@
 -- The first line field by field: a field that does not read leaves no head.
 use Rattle.std.specs.Prelude.{ℕ, ◌≤◌, ◌<◌, Bool, true, false, ◌&&◌, List, [], ◌≡◌, leb, eqb, length, get_or, Float, Option, None, Some}
 use Rattle.std.proofs.lemmas.Option.{none-some, same_Some}
+use Rattle.std.proofs.Common.{sym}
 use Rattle.std.proofs.Math.Bool.{cond, and-false}
 use Rattle.std.proofs.Math.Path.{refl, ap, subst}
 use Rattle.std.proofs.Common.{◌∙◌, arith, le-leb, leb-false, eq-eqb, ne_eqb}

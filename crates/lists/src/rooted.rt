@@ -27,8 +27,5 @@ pub fn rooted(s: Settings, n: Counters, links: &[u32]) -> bool
     requires { Links s n (length links.now) }
     ensures { AnyFloats s n links.now (λ t. result ≡ rooted t) }
 {
-    if n.root >= n.nodes {
-        return false;
-    }
-    links::parent(s, n, links, n.root).is_none()
+    n.root < n.nodes && links::parent(s, n, links, n.root).is_none()
 }

@@ -30,6 +30,18 @@ up_to-below f (suc i) l k b h =
     (λ (g : k < i). get_or-set_other (up_to f i l) i k (f i) nan (ne_of_lt g) ∙ up_to-below f i l k (omega arith) g)
     (eq-or-lt_of_le (omega arith))
 
+-- one channel more, in a loop that reads the place that it writes
+pub up_to-none : (f : ℕ → Float) (l : List Float) → up_to f 0 l ≡ l
+unfolding up_to
+up_to-none f l = refl
+
+pub up_to_unread : (f : ℕ → Float) (i : ℕ) (l m : List Float) → m ≡ up_to f i l → at m i ≡ at l i
+up_to_unread f i l m e = ap (λ x. at x i) e ∙ up_to_past f i l i (omega arith)
+
+pub up_to_next : (f : ℕ → Float) (i : ℕ) (l m : List Float) (x : Float) → m ≡ up_to f i l → x ≡ f i → set m i x ≡ up_to f (i + 1) l
+unfolding up_to
+up_to_next f i l m x e q = let z : i + 1 ≡ suc i = omega arith in rw (e, q, z)
+
 -- two rules that agree below n give one list
 pub up_to-same : (f g : ℕ → Float) (n : ℕ) (l : List Float) → ((k : ℕ) → k < n → f k ≡ g k) → up_to f n l ≡ up_to g n l
 unfolding up_to

@@ -79,11 +79,10 @@ count_ranged w h =
 
 -- a weight is a count where it is told as rows
 pub told_some : (w : Float) → is_some (count_of w) ≡ is_count w
-unfolding count_of
+unfolding count_of told
 told_some w = go (is_count w) (to_unsigned 64 w)
   where
     go : (b : Bool) (n : ℕ) → is_some (told b n) ≡ b
-    unfolding told
     go true n = refl
     go false n = refl
 

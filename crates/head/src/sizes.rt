@@ -31,15 +31,12 @@ impl Settings {
     }
 
     // A node's links: its parent, its kind with its list's length, its list, and one spare place.
+    #[tactic(auto, unfolding(crate::specs::Sizes::block_width))]
     pub fn block_width(self) -> usize
         requires { Sized self }
         ensures { result ≡ block_width self }
     {
-        if self.branching < self.leaf_cap {
-            self.leaf_cap + 3
-        } else {
-            self.branching + 3
-        }
+        self.branching.max(self.leaf_cap) + 3
     }
 
     pub fn floats_needed(self) -> usize

@@ -1,5 +1,5 @@
--- What the two combinations give: at each channel, when a rule is replaced by another, and in a loop over all 8 channels that acts below n.
-use Rattle.std.specs.Prelude.{◌≡◌, refl, List, ℕ, zero, suc, ◌+◌, ◌<◌, ◌≤◌, min, length, set, take, drop, ◌-◌, ◌++◌, Float}
+-- What the two combinations give: at each channel, when a rule is replaced by another, and in a loop over the channels.
+use Rattle.std.specs.Prelude.{◌≡◌, refl, List, ℕ, zero, suc, ◌+◌, ◌<◌, ◌≤◌, length, set, take, drop, ◌-◌, ◌++◌, Float}
 use Rattle.std.proofs.Common.{sym, ap, ap₂, ◌∙◌, ⊎_elim, ne_of_lt, eq-or-lt_of_le, arith, length-set, length-append, length-drop, length-take-le, get_or-take, get_or-drop, ext_get_or, get_or-set_same, get_or-set_other}
 use Rattle.std.proofs.lemmas.Bool.{cases_lt}
 use Rattle.std.proofs.lemmas.List.{get_or-append_right}
@@ -84,25 +84,3 @@ module _ (gives : ℕ → Float → Type 0) where
   pub sums_up : (f : ℕ → Float) (n : ℕ) (r : Float) → SumsUp gives n r → ((i : ℕ) (x : Float) → i < n → gives i x → x ≡ f i) → r ≡ sum_to f n
   unfolding SumsUp
   sums_up f n r e h = e f h
-
--- ---- a loop whose turn i acts where i is below n: its state after i turns is that of `min i n`
-
-below : (i n : ℕ) → i < n → (min i n ≡ i) × (min (i + 1) n ≡ suc i)
-below i n h = (omega arith, omega arith)
-
-past : (i n : ℕ) → n ≤ i → min (i + 1) n ≡ min i n
-past i n h = omega arith
-
-pub up_to_turn : (f : ℕ → Float) (n i : ℕ) (l : List Float) → i < n → up_to f (min (i + 1) n) l ≡ set (up_to f (min i n) l) i (f i)
-unfolding up_to
-up_to_turn f n i l h = let (p, q) = below i n h in rw (p, q)
-
-pub up_to_pass : (f : ℕ → Float) (n i : ℕ) (l : List Float) → n ≤ i → up_to f (min (i + 1) n) l ≡ up_to f (min i n) l
-up_to_pass f n i l h = ap (λ k. up_to f k l) (past i n h)
-
--- the loop begins at nothing and ends at n
-pub min_start : (n : ℕ) → min 0 n ≡ 0
-min_start n = omega arith
-
-pub min_end : (i n : ℕ) → n ≤ i → min i n ≡ n
-min_end i n h = omega arith

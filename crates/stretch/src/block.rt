@@ -21,11 +21,7 @@ const NO_PARENT: u32 = 4_294_967_295;
 pub fn zero(b: &mut [u32])
     ensures { b.new ≡ replicate (length b.old) 0 }
 {
-    let mut i = 0;
-    while i < b.len() {
-        b[i] = 0;
-        i += 1;
-    }
+    b.fill(0);
 }
 
 // The first n of a list go to the front of b.
@@ -33,11 +29,7 @@ fn copy(n: usize, from: &[u32], b: &mut [u32])
     requires { (n ≤ length from.now) × (n ≤ length b.old) }
     ensures { b.new ≡ take n from.now ++ drop n b.old }
 {
-    let mut i = 0;
-    while i < n {
-        b[i] = from[i];
-        i += 1;
-    }
+    b[..n].copy_from_slice(&from[..n]);
 }
 
 // The word of a parent.

@@ -1,6 +1,6 @@
 -- `count_of` tells n exactly where the weight is the float of n, from 1 to 2 ^ 53.
-use Rattle.std.specs.Prelude.{◌≡◌, ℕ, Bool, true, false, ◌&&◌, T, refl, Float}
-use Rattle.std.proofs.Common.{sym, ap, ◌∙◌, subst, arith, le_refl, le-leb, eq-eqb, lit≤}
+use Rattle.std.specs.Prelude.{◌≡◌, ℕ, Bool, true, false, ◌&&◌, T, refl, Float, Some}
+use Rattle.std.proofs.Common.{sym, ap, ◌∙◌, subst, le_refl, le-leb, eq-eqb, lit≤}
 use Rattle.std.proofs.lemmas.Bool.{false≢true}
 use Rattle.std.specs.Float.{binary64}
 use Rattle.std.specs.Float.Ieee.{le, eq, to_unsigned, fits}
@@ -9,7 +9,6 @@ use Rattle.binary64.specs.Whole.{whole, most, whole_1, whole-most, whole_back, w
 use Rattle.binary64.specs.Order.{le-whole, eq-whole, eq_is}
 use Rattle.binary64.specs.Range.{ranged}
 use Rattle.binary64.specs.Counts.{is_count, told, count_of, Counts}
-use Rattle.binary64.specs.declared.Count.TheVariants.{Rows}
 
 holds : {b : Bool} → b ≡ true → T b
 holds e = subst T (sym e) tt
@@ -28,13 +27,13 @@ counted w f h = go (le f1 w) (le w f2^53) (eq (whole (to_unsigned 64 w)) w) refl
     go true false c p q r h = absurd (false≢true h)
     go false b c p q r h = absurd (false≢true h)
 
-pub told_rows : (w : Float) (n : ℕ) → T (fits binary64 w) → count_of w ≡ Rows n → Counts w n
+pub told_rows : (w : Float) (n : ℕ) → T (fits binary64 w) → count_of w ≡ Some n → Counts w n
 unfolding count_of told
 told_rows w n f h = go (is_count w) refl h
   where
-    go : (b : Bool) → is_count w ≡ b → told b (to_unsigned 64 w) ≡ Rows n → Counts w n
+    go : (b : Bool) → is_count w ≡ b → told b (to_unsigned 64 w) ≡ Some n → Counts w n
     go true p h = let e : to_unsigned 64 w ≡ n = cc in subst (Counts w) e (counted w f p)
-    go false p h = let z : ◌≡◌ {A = ℕ} 0 1 = cc in absurd (omega arith)
+    go false p h = absurd cc
 
 -- ---- and a count passes it
 
@@ -51,9 +50,9 @@ counts_test w n h = rw (h.is, low, high, back)
     back : eq (whole (to_unsigned 64 (whole n))) (whole n) ≡ true
     back = rw (whole_back n h.few) (eq-whole n n h.few h.few ∙ eq-eqb n n refl)
 
-pub counts_told : (w : Float) (n : ℕ) → Counts w n → count_of w ≡ Rows n
+pub counts_told : (w : Float) (n : ℕ) → Counts w n → count_of w ≡ Some n
 unfolding count_of told
-counts_told w n h = rw (counts_test w n h) (ap Rows (ap (to_unsigned 64) h.is ∙ whole_back n h.few))
+counts_told w n h = rw (counts_test w n h) (ap Some (ap (to_unsigned 64) h.is ∙ whole_back n h.few))
 
 pub counts_unique : (w : Float) (j k : ℕ) → Counts w j → Counts w k → j ≡ k
 counts_unique w j k p q = whole_injective j k p.few q.few (sym p.is ∙ q.is)

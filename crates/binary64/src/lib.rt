@@ -7,62 +7,47 @@ ghost use Rattle.std.specs.Float.Ieee.Scale.{finite};
 ghost use Rattle.binary64.specs.Values.{absolute, ranked, same_value};
 ghost use Rattle.binary64.specs.Counts.{count_of};
 
-// What a weight says of the rows behind it.
-#[derive(Clone, Copy)]
-pub enum Count {
-    // It is this whole number, from 1 to 2^53.
-    Rows(u64),
-    // It is no such number.
-    NotWhole,
-}
-
-// The rows that a weight counts.
-pub fn count_of(w: f64) -> Count
+// The rows that a weight counts: a whole number from 1 to 2^53.
+pub fn count_of(w: f64) -> Option<u64>
     ensures { result ≡ count_of w }
 {
-    if w >= 1.0 {
-        if w <= 9007199254740992.0 {
-            let n = std::num::truncating_f64_to_u64(w);
-            if n as f64 == w {
-                return Count::Rows(n);
-            }
+    if w >= 1.0 && w <= 9007199254740992.0 {
+        let n = std::num::truncating_f64_to_u64(w);
+        if n as f64 == w {
+            return Some(n);
         }
     }
-    Count::NotWhole
+    None
 }
 
 pub fn is_nan(x: f64) -> bool
     ensures { result ≡ is_nan x }
 {
-    x != x
+    x.is_nan()
 }
 
 // Neither a NaN nor an infinity.
+#[tactic(auto, using(crate::specs::Values::finite_is))]
 pub fn is_finite(x: f64) -> bool
     ensures { result ≡ finite x }
 {
-    let top = 1.0 / 0.0;
-    if x < top { x > -top } else { false }
+    x.is_finite()
 }
 
 // x with its sign cleared: −0.0 gives 0.0, and a NaN stays.
+#[tactic(auto, using(crate::specs::Values::cleared))]
 pub fn abs(x: f64) -> f64
     ensures { result ≡ absolute x }
 {
-    if x < 0.0 {
-        return -x;
-    }
-    if x == 0.0 {
-        return 0.0;
-    }
-    x
+    x.abs()
 }
 
 // A NaN read as infinity, so that it ranks last.
+#[tactic(auto, using(crate::specs::Values::ranked_nan, crate::specs::Values::ranked_other))]
 pub fn rank(x: f64) -> f64
     ensures { result ≡ ranked x }
 {
-    if x != x { 1.0 / 0.0 } else { x }
+    if x.is_nan() { f64::INFINITY } else { x }
 }
 
 // The float of a bit pattern. Every pattern of a NaN gives the one NaN.
@@ -70,24 +55,26 @@ pub fn of_bits(b: u64) -> f64
     ensures { result ≡ from_bits binary64 b }
 {
     if b % 0x8000_0000_0000_0000 > 0x7ff0_0000_0000_0000 {
-        0.0 / 0.0
+        f64::NAN
     } else {
         f64::from_bits(b)
     }
 }
 
 // The bits of x, a NaN's always 7ff8000000000000.
+#[tactic(auto, using(crate::specs::Values::nan_bits))]
 pub fn bits_of(x: f64) -> u64
     ensures { result ≡ to_bits binary64 x }
 {
-    if x != x {
+    if x.is_nan() {
         0x7ff8_0000_0000_0000
     } else {
-        f64::to_bits(x)
+        x.to_bits()
     }
 }
 
 // Whether a and b are one value, bit for bit, with NaN as one value.
+#[tactic(auto, unfolding(crate::specs::Values::same_value))]
 pub fn same(a: f64, b: f64) -> bool
     ensures { result ≡ same_value a b }
 {

@@ -20,6 +20,7 @@ pub enum Distance {
 }
 
 // The sum over the first dim channels that a distance goes by.
+#[tactic(auto, unfolding(crate::specs::Distances::gap_of, crate::specs::Distances::squared_gap))]
 pub fn gap(k: Distance, dim: usize, a: &[f64], b: &[f64]) -> f64
     requires { Dim dim × (dim ≤ length a.now) × (dim ≤ length b.now) }
     ensures { result ≡ gap_of k dim a.now b.now }
@@ -35,16 +36,11 @@ fn total(dim: usize, deviation: &[f64]) -> f64
     requires { Dim dim × (dim ≤ length deviation.now) }
     ensures { result ≡ sum_to (at deviation.now) dim }
 {
-    let mut sum = 0.0;
-    let mut i = 0;
-    while i < dim {
-        sum = sum + deviation[i];
-        i += 1;
-    }
-    sum
+    kernels::sum(dim, |i| deviation[i])
 }
 
 // The total squared deviation.
+#[tactic(auto, unfolding(crate::specs::Distances::ssd_of))]
 pub fn ssd(f: Feature, dim: usize, deviation: &[f64]) -> f64
     requires { Dim dim × (dim ≤ length deviation.now) }
     ensures { result ≡ ssd_of f dim deviation.now }
@@ -56,6 +52,7 @@ pub fn ssd(f: Feature, dim: usize, deviation: &[f64]) -> f64
 }
 
 // The distance to a row from a summary of weight n, gap q and total deviation v.
+#[tactic(auto, unfolding(crate::specs::Distances::to_row))]
 pub fn to_row(k: Distance, n: f64, q: f64, v: f64) -> f64
     ensures { result ≡ to_row k n q v }
 {
@@ -81,6 +78,7 @@ pub fn to_row(k: Distance, n: f64, q: f64, v: f64) -> f64
 }
 
 // What a merge of two summaries of weights na and nb, with the squared gap q, adds to the squared deviation.
+#[tactic(auto, unfolding(crate::specs::Distances::increase_of))]
 fn increase(na: f64, nb: f64, q: f64) -> f64
     ensures { result ≡ increase_of na nb q }
 {
@@ -89,6 +87,7 @@ fn increase(na: f64, nb: f64, q: f64) -> f64
 }
 
 // The distance between two summaries of weights na and nb, gap q and total deviations va and vb.
+#[tactic(auto, unfolding(crate::specs::Distances::to_summary))]
 pub fn to_summary(k: Distance, na: f64, nb: f64, q: f64, va: f64, vb: f64) -> f64
     ensures { result ≡ to_summary k na nb q va vb }
 {

@@ -22,6 +22,7 @@ pub struct Summary {
 }
 
 // The summary of no rows.
+#[tactic(auto, unfolding(crate::specs::Summaries::blank))]
 pub fn empty() -> Summary
     ensures { result ≡ blank }
 {
@@ -33,6 +34,7 @@ pub fn empty() -> Summary
 }
 
 // How many deviations a feature keeps.
+#[tactic(auto, unfolding(crate::specs::Summaries::slots_of))]
 pub fn slots(f: Feature, dim: usize) -> usize
     ensures { result ≡ slots_of f dim }
 {
@@ -42,74 +44,55 @@ pub fn slots(f: Feature, dim: usize) -> usize
     }
 }
 
-// The means of the first dim channels, each moved towards x by factor.
-fn moved(dim: usize, factor: f64, mean: [f64; 8], x: &[f64]) -> [f64; 8]
-    requires { Dim dim × (dim ≤ length x.now) }
-    ensures { result ≡ up_to (moved_at factor mean x.now) dim mean }
+// The first dim means, each moved towards x by factor.
+pub fn shift(dim: usize, factor: f64, mean: &mut [f64], x: &[f64])
+    requires { (dim ≤ length mean.old) × (dim ≤ length x.now) }
+    ensures { mean.new ≡ up_to (moved_at factor mean.old x.now) dim mean.old }
 {
-    let mut out = mean;
-    for i in 0..8 {
-        if i < dim {
-            let d = x[i] - mean[i];
-            out[i] = mean[i] + factor * d;
-        }
+    for i in 0..dim {
+        let d = x[i] - mean[i];
+        mean[i] = mean[i] + factor * d;
     }
-    out
 }
 
-// The deviations of the first dim channels, each with what a step of the mean towards x adds.
-fn added(dim: usize, coef: f64, mean: [f64; 8], deviation: [f64; 8], x: &[f64]) -> [f64; 8]
-    requires { Dim dim × (dim ≤ length x.now) }
-    ensures { result ≡ up_to (added_at coef mean deviation x.now) dim deviation }
+// The first dim deviations, each with what a step of its mean towards x adds.
+fn widen(dim: usize, coef: f64, mean: &[f64], deviation: &mut [f64], x: &[f64])
+    requires { (dim ≤ length mean.now) × (dim ≤ length deviation.old) × (dim ≤ length x.now) }
+    ensures { deviation.new ≡ up_to (added_at coef mean.now deviation.old x.now) dim deviation.old }
 {
-    let mut out = deviation;
-    for i in 0..8 {
-        if i < dim {
-            let d = x[i] - mean[i];
-            out[i] = deviation[i] + coef * d * d;
-        }
+    for i in 0..dim {
+        let d = x[i] - mean[i];
+        deviation[i] = deviation[i] + coef * d * d;
     }
-    out
-}
-
-// The first n deviations of a, each with b's.
-fn both(n: usize, a: [f64; 8], b: [f64; 8]) -> [f64; 8]
-    requires { n ≤ 8 }
-    ensures { result ≡ up_to (both_at a b) n a }
-{
-    let mut out = a;
-    for i in 0..8 {
-        if i < n {
-            out[i] = a[i] + b[i];
-        }
-    }
-    out
 }
 
 // The deviations after a step of the mean towards x.
-fn deviate(
-    f: Feature,
-    dim: usize,
-    coef: f64,
-    mean: [f64; 8],
-    deviation: [f64; 8],
-    x: &[f64],
-) -> [f64; 8]
-    requires { Dim dim × (dim ≤ length x.now) }
-    ensures { result ≡ deviated f dim coef mean deviation x.now }
+#[tactic(auto, unfolding(crate::specs::Steps::deviated))]
+pub fn deviate(f: Feature, dim: usize, coef: f64, mean: &[f64], deviation: &mut [f64], x: &[f64])
+    requires { Dim dim × (dim ≤ length mean.now) × (dim ≤ length deviation.old) × (dim ≤ length x.now) }
+    ensures { deviation.new ≡ deviated f dim coef mean.now deviation.old x.now }
 {
     match f {
         Feature::Spherical => {
-            let sum = kernels::sq_euclidean(dim, x, &mean);
-            let mut out = deviation;
-            out[0] = deviation[0] + coef * sum;
-            out
+            let sum = kernels::sq_euclidean(dim, x, mean);
+            deviation[0] = deviation[0] + coef * sum;
         }
-        Feature::Diagonal => added(dim, coef, mean, deviation, x),
+        Feature::Diagonal => widen(dim, coef, mean, deviation, x),
+    }
+}
+
+// The first n deviations of a, each with b's.
+fn add(n: usize, a: &mut [f64], b: &[f64])
+    requires { (n ≤ length a.old) × (n ≤ length b.now) }
+    ensures { a.new ≡ up_to (both_at a.old b.now) n a.old }
+{
+    for i in 0..n {
+        a[i] = a[i] + b[i];
     }
 }
 
 // The row, pushed into s with weight 1.
+#[tactic(auto, unfolding(crate::specs::Steps::pushed))]
 pub fn push(f: Feature, dim: usize, s: Summary, row: &[f64]) -> Summary
     requires { Dim dim × (dim ≤ length row.now) }
     ensures { result ≡ pushed f dim s row.now }
@@ -117,10 +100,10 @@ pub fn push(f: Feature, dim: usize, s: Summary, row: &[f64]) -> Summary
     let weight = s.weight + 1.0;
     let factor = 1.0 / weight;
     let coef = 1.0 - 1.0 / weight;
-    let m = s.mean;
-    let v = s.deviation;
-    let mean = moved(dim, factor, m, row);
-    let deviation = deviate(f, dim, coef, m, v, row);
+    let mut mean = s.mean;
+    let mut deviation = s.deviation;
+    deviate(f, dim, coef, &mean, &mut deviation, row);
+    shift(dim, factor, &mut mean, row);
     Summary {
         weight,
         mean,
@@ -135,15 +118,12 @@ fn join(f: Feature, dim: usize, s: Summary, o: Summary) -> Summary
 {
     let weight = s.weight + o.weight;
     let factor = o.weight / weight;
-    let c = s.weight * o.weight / weight;
-    let m = s.mean;
-    let x = o.mean;
-    let v = s.deviation;
-    let u = o.deviation;
-    let n = slots(f, dim);
-    let sum = both(n, v, u);
-    let mean = moved(dim, factor, m, &x);
-    let deviation = deviate(f, dim, c, m, sum, &x);
+    let coef = s.weight * o.weight / weight;
+    let mut mean = s.mean;
+    let mut deviation = s.deviation;
+    add(slots(f, dim), &mut deviation, &o.deviation);
+    deviate(f, dim, coef, &mean, &mut deviation, &o.mean);
+    shift(dim, factor, &mut mean, &o.mean);
     Summary {
         weight,
         mean,
@@ -152,6 +132,7 @@ fn join(f: Feature, dim: usize, s: Summary, o: Summary) -> Summary
 }
 
 // o merged into s.
+#[tactic(auto, unfolding(crate::specs::Steps::merged))]
 pub fn merge(f: Feature, dim: usize, s: Summary, o: Summary) -> Summary
     requires { Dim dim }
     ensures { result ≡ merged f dim s o }

@@ -7,6 +7,7 @@ use crate::{Counters, Running};
 
 impl Counters {
     // One node, a leaf with nothing in it.
+    #[tactic(auto, unfolding(crate::specs::Heads::new_counters, crate::specs::Counting::new_running))]
     pub fn new(threshold: f64) -> Self
         ensures { result ≡ new_counters threshold }
     {
@@ -23,6 +24,7 @@ impl Counters {
         }
     }
 
+    #[tactic(auto, unfolding(crate::specs::Counting::count_nodes))]
     pub fn with_nodes(mut self, nodes: usize) -> Self
         ensures { result ≡ count_nodes nodes self }
     {
@@ -30,6 +32,7 @@ impl Counters {
         self
     }
 
+    #[tactic(auto, unfolding(crate::specs::Counting::count_entries))]
     pub fn with_entries(mut self, entries: usize) -> Self
         ensures { result ≡ count_entries entries self }
     {
@@ -37,6 +40,7 @@ impl Counters {
         self
     }
 
+    #[tactic(auto, unfolding(crate::specs::Counting::root_at))]
     pub fn with_root(mut self, root: usize) -> Self
         ensures { result ≡ root_at root self }
     {
@@ -44,6 +48,7 @@ impl Counters {
         self
     }
 
+    #[tactic(auto, unfolding(crate::specs::Counting::count_running, crate::specs::Counting::with_threshold))]
     pub fn with_threshold(mut self, threshold: f64) -> Self
         ensures { result ≡ count_running (with_threshold threshold) self }
     {
@@ -51,6 +56,7 @@ impl Counters {
         self
     }
 
+    #[tactic(auto, unfolding(crate::specs::Counting::count_running, crate::specs::Counting::with_rebuilds))]
     pub fn with_rebuilds(mut self, rebuilds: u64) -> Self
         ensures { result ≡ count_running (with_rebuilds rebuilds) self }
     {
@@ -58,6 +64,7 @@ impl Counters {
         self
     }
 
+    #[tactic(auto, unfolding(crate::specs::Counting::count_running, crate::specs::Counting::with_merged))]
     pub fn with_merged(mut self, merged: usize) -> Self
         ensures { result ≡ count_running (with_merged merged) self }
     {

@@ -56,6 +56,7 @@ pub struct Settings {
 }
 
 // The feature of a number, and any other number's is the last.
+#[tactic(auto, unfolding(crate::specs::Heads::feature_at))]
 fn feature_at(n: u32) -> Feature
     ensures { result ≡ feature_at n }
 {
@@ -66,6 +67,7 @@ fn feature_at(n: u32) -> Feature
 }
 
 // The distance of a number, and any other number's is the last.
+#[tactic(auto, unfolding(crate::specs::Heads::distance_at))]
 fn distance_at(n: u32) -> Distance
     ensures { result ≡ distance_at n }
 {
@@ -104,6 +106,7 @@ impl Head {
     pub const MOST_ROWS: u64 = 9_007_199_254_740_992;
 
     // The head of an empty tree: one node, a leaf with nothing in it.
+    #[tactic(auto, unfolding(crate::specs::Heads::new_head))]
     pub fn new(
         dim: usize,
         branching: usize,
@@ -130,6 +133,7 @@ impl Head {
     }
 
     // The settings, where the head is allowed.
+    #[tactic(auto, unfolding(crate::specs::Heads::settings_of))]
     pub fn settings(self) -> Settings
         ensures { result ≡ settings_of self }
     {
@@ -148,18 +152,10 @@ impl Head {
     }
 
     // The same settings, other counters.
+    #[tactic(auto, unfolding(crate::specs::Heads::with_counters))]
     pub fn with_counters(self, counters: Counters) -> Self
         ensures { result ≡ with_counters self counters }
     {
-        Head {
-            dim: self.dim,
-            branching: self.branching,
-            leaf_cap: self.leaf_cap,
-            max_leaves: self.max_leaves,
-            feature: self.feature,
-            dist: self.dist,
-            abs: self.abs,
-            counters,
-        }
+        Head { counters, ..self }
     }
 }

@@ -7,6 +7,7 @@ use crate::Settings;
 
 impl Settings {
     // The most nodes, N: (M+1)(M+2)/2.
+    #[tactic(auto, using(crate::specs::Sizes::product_small), unfolding(crate::specs::Sizes::node_cap))]
     pub fn node_cap(self) -> usize
         requires { Sized self }
         ensures { result ≡ node_cap self }
@@ -15,6 +16,7 @@ impl Settings {
     }
 
     // The most entries: M+1, one of them only until the rebuild.
+    #[tactic(auto, unfolding(crate::specs::Sizes::entry_cap))]
     pub fn entry_cap(self) -> usize
         requires { Sized self }
         ensures { result ≡ entry_cap self }
@@ -23,6 +25,7 @@ impl Settings {
     }
 
     // A summary's floats: its weight, dim means and dim deviations.
+    #[tactic(auto, unfolding(crate::specs::Sizes::slot_width))]
     pub fn slot_width(self) -> usize
         requires { Sized self }
         ensures { result ≡ slot_width self }
@@ -31,17 +34,15 @@ impl Settings {
     }
 
     // A node's links: its parent, its kind with its list's length, its list, and one spare place.
+    #[tactic(auto, unfolding(crate::specs::Sizes::block_width))]
     pub fn block_width(self) -> usize
         requires { Sized self }
         ensures { result ≡ block_width self }
     {
-        if self.branching < self.leaf_cap {
-            self.leaf_cap + 3
-        } else {
-            self.branching + 3
-        }
+        self.branching.max(self.leaf_cap) + 3
     }
 
+    #[tactic(auto, using(crate::specs::Sizes::floats_small, crate::specs::Sizes::nodes_small, crate::specs::Sizes::entries_small), unfolding(crate::specs::Sizes::floats_needed))]
     pub fn floats_needed(self) -> usize
         requires { Sized self }
         ensures { result ≡ floats_needed self }
@@ -49,6 +50,7 @@ impl Settings {
         (self.node_cap() + self.entry_cap()) * self.slot_width()
     }
 
+    #[tactic(auto, using(crate::specs::Sizes::links_small), unfolding(crate::specs::Sizes::links_needed))]
     pub fn links_needed(self) -> usize
         requires { Sized self }
         ensures { result ≡ links_needed self }
@@ -57,6 +59,7 @@ impl Settings {
     }
 
     // A summary for each entry.
+    #[tactic(auto, using(crate::specs::Sizes::scratch_small), unfolding(crate::specs::Sizes::scratch_floats_needed))]
     pub fn scratch_floats_needed(self) -> usize
         requires { Sized self }
         ensures { result ≡ scratch_floats_needed self }
@@ -65,6 +68,7 @@ impl Settings {
     }
 
     // Three numbers for each entry.
+    #[tactic(auto, using(crate::specs::Sizes::entries_small), unfolding(crate::specs::Sizes::scratch_links_needed))]
     pub fn scratch_links_needed(self) -> usize
         requires { Sized self }
         ensures { result ≡ scratch_links_needed self }

@@ -1,9 +1,12 @@
--- What the two combinations give: at each channel, when a rule is replaced by another, and in a loop over all 8 channels that acts below n.
-use Rattle.std.specs.Prelude.{◌≡◌, refl, List, ℕ, zero, suc, ◌+◌, ◌<◌, ◌≤◌, min, length, set, Float}
-use Rattle.std.proofs.Common.{ap, ap₂, ◌∙◌, ⊎_elim, ne_of_lt, eq-or-lt_of_le, arith, length-set, get_or-set_same, get_or-set_other}
+-- What the two combinations give: at each channel, when a rule is replaced by another, and in a loop over the channels.
+use Rattle.std.specs.Prelude.{◌≡◌, refl, List, ℕ, zero, suc, ◌+◌, ◌<◌, ◌≤◌, length, set, take, drop, ◌-◌, ◌++◌, Float}
+use Rattle.std.proofs.Common.{sym, ap, ap₂, ◌∙◌, ⊎_elim, ne_of_lt, eq-or-lt_of_le, arith, length-set, length-append, length-drop, length-take-le, get_or-take, get_or-drop, ext_get_or, get_or-set_same, get_or-set_other}
+use Rattle.std.proofs.lemmas.Bool.{cases_lt}
+use Rattle.std.proofs.lemmas.List.{get_or-append_right}
+use Rattle.std.proofs.Math.ListN.{get_or-append}
 use Rattle.std.specs.Float.{nan}
-use Rattle.binary64.specs.Operators.{◌⊕◌}
-use Rattle.kernels.specs.Channels.{at, sum_to, up_to}
+use Rattle.binary64.specs.Operators.{◌⊕◌, f0}
+use Rattle.kernels.specs.Channels.{at, sum_to, up_to, SumsUp}
 
 -- ---- lists
 
@@ -27,11 +30,34 @@ up_to-below f (suc i) l k b h =
     (λ (g : k < i). get_or-set_other (up_to f i l) i k (f i) nan (ne_of_lt g) ∙ up_to-below f i l k (omega arith) g)
     (eq-or-lt_of_le (omega arith))
 
+-- one channel more, in a loop that reads the place that it writes
+pub up_to-none : (f : ℕ → Float) (l : List Float) → up_to f 0 l ≡ l
+unfolding up_to
+up_to-none f l = refl
+
+pub up_to_unread : (f : ℕ → Float) (i : ℕ) (l m : List Float) → m ≡ up_to f i l → at m i ≡ at l i
+up_to_unread f i l m e = ap (λ x. at x i) e ∙ up_to_past f i l i (omega arith)
+
+pub up_to_next : (f : ℕ → Float) (i : ℕ) (l m : List Float) (x : Float) → m ≡ up_to f i l → x ≡ f i → set m i x ≡ up_to f (i + 1) l
+unfolding up_to
+up_to_next f i l m x e q = let z : i + 1 ≡ suc i = omega arith in rw (e, q, z)
+
 -- two rules that agree below n give one list
 pub up_to-same : (f g : ℕ → Float) (n : ℕ) (l : List Float) → ((k : ℕ) → k < n → f k ≡ g k) → up_to f n l ≡ up_to g n l
 unfolding up_to
 up_to-same f g zero l h = refl
 up_to-same f g (suc i) l h = ap₂ (λ m x. set m i x) (up_to-same f g i l (λ k p. h k (omega arith))) (h i (omega arith))
+
+-- the first n numbers of another list, written over l
+pub up_to_front : (a l : List Float) (n : ℕ) → n ≤ length a → n ≤ length l → up_to (at a) n l ≡ take n a ++ drop n l
+up_to_front a l n h k =
+    let front : length (take n a) ≡ n = length-take-le n a h in
+    ext_get_or nan (up_to (at a) n l) (take n a ++ drop n l) (length-up_to (at a) n l ∙ simp (length-append, length-drop) (omega arith))
+    (λ i _.
+    ⊎_elim (λ q. up_to-below (at a) n l i k q ∙ sym (get_or-append (take n a) (drop n l) nan i (omega arith) ∙ get_or-take n a i nan q))
+    (λ q.
+    let e : n + (i - n) ≡ i = omega arith in
+    up_to_past (at a) n l i q ∙ sym (get_or-append_right (take n a) (drop n l) n i nan front q ∙ get_or-drop n l (i - n) nan ∙ ap (λ j. at l j) e)) (cases_lt i n))
 
 -- ---- sums
 
@@ -45,24 +71,16 @@ pub sum-next : (f : ℕ → Float) (i : ℕ) → sum_to f (i + 1) ≡ sum_to f i
 unfolding sum_to
 sum-next f i = let e : i + 1 ≡ suc i = omega arith in rw e
 
--- ---- a loop whose turn i acts where i is below n: its state after i turns is that of `min i n`
+-- what a rule's calls give is added up one channel after the other
+module _ (gives : ℕ → Float → Type 0) where
+  pub sums-none : SumsUp gives 0 f0
+  unfolding SumsUp sum_to
+  sums-none f h = refl
 
-below : (i n : ℕ) → i < n → (min i n ≡ i) × (min (i + 1) n ≡ suc i)
-below i n h = (omega arith, omega arith)
+  pub sums_more : (i : ℕ) (s x : Float) → SumsUp gives i s → gives i x → SumsUp gives (i + 1) (s ⊕ x)
+  unfolding SumsUp
+  sums_more i s x e q f h = ap₂ (λ a b. a ⊕ b) (e f (λ k y p. h k y (omega arith))) (h i x (omega arith) q) ∙ sym (sum-next f i)
 
-past : (i n : ℕ) → n ≤ i → min (i + 1) n ≡ min i n
-past i n h = omega arith
-
-pub up_to_turn : (f : ℕ → Float) (n i : ℕ) (l : List Float) → i < n → up_to f (min (i + 1) n) l ≡ set (up_to f (min i n) l) i (f i)
-unfolding up_to
-up_to_turn f n i l h = let (p, q) = below i n h in rw (p, q)
-
-pub up_to_pass : (f : ℕ → Float) (n i : ℕ) (l : List Float) → n ≤ i → up_to f (min (i + 1) n) l ≡ up_to f (min i n) l
-up_to_pass f n i l h = ap (λ k. up_to f k l) (past i n h)
-
--- the loop begins at nothing and ends at n
-pub min_start : (n : ℕ) → min 0 n ≡ 0
-min_start n = omega arith
-
-pub min_end : (i n : ℕ) → n ≤ i → min i n ≡ n
-min_end i n h = omega arith
+  pub sums_up : (f : ℕ → Float) (n : ℕ) (r : Float) → SumsUp gives n r → ((i : ℕ) (x : Float) → i < n → gives i x → x ≡ f i) → r ≡ sum_to f n
+  unfolding SumsUp
+  sums_up f n r e h = e f h

@@ -1,22 +1,31 @@
-// The two sums over the channels of two means, from 0, from the first channel to the last.
+// The sums over the channels of means, from 0, from the first channel to the last.
 #![tactic(auto)]
 
-ghost use Rattle.std.specs.Prelude.{◌≡◌, ◌≤◌, length, replicate};
+ghost use Rattle.std.specs.Prelude.{◌≡◌, ◌<◌, ◌≤◌, ℕ, length, replicate};
 ghost use Rattle.binary64.specs.Operators.{f0};
-ghost use Rattle.kernels.specs.Channels.{at, up_to, sum_to, square_at, size_at};
+ghost use Rattle.kernels.specs.Channels.{at, up_to, sum_to, square_at, size_at, SumsUp};
 
 // The first dim numbers of a slice, in an array of their own.
+#[tactic(auto, using(crate::specs::Laws::up_to_front))]
 pub fn copied(dim: usize, a: &[f64]) -> [f64; 8]
     requires { (dim ≤ 8) × (dim ≤ length a.now) }
     ensures { result ≡ up_to (at a.now) dim (replicate 8 f0) }
 {
     let mut out = [0.0; 8];
-    for i in 0..8 {
-        if i < dim {
-            out[i] = a[i];
-        }
-    }
+    out[..dim].copy_from_slice(&a[..dim]);
     out
+}
+
+// The sum of what a rule gives at the first dim channels.
+pub fn sum<F: Fn(usize) -> f64>(dim: usize, rule: F) -> f64
+    requires { (i : ℕ) → i < dim → F.pre rule i }
+    ensures { SumsUp (F.post rule) dim result }
+{
+    let mut sum = 0.0;
+    for i in 0..dim {
+        sum = sum + rule(i);
+    }
+    sum
 }
 
 // The squared Euclidean sum of the first dim channels.
@@ -24,14 +33,10 @@ pub fn sq_euclidean(dim: usize, a: &[f64], b: &[f64]) -> f64
     requires { (dim ≤ 8) × (dim ≤ length a.now) × (dim ≤ length b.now) }
     ensures { result ≡ sum_to (square_at a.now b.now) dim }
 {
-    let mut sum = 0.0;
-    let mut i = 0;
-    while i < dim {
+    sum(dim, |i| {
         let d = a[i] - b[i];
-        sum = sum + d * d;
-        i += 1;
-    }
-    sum
+        d * d
+    })
 }
 
 // The Manhattan sum of the first dim channels.
@@ -39,11 +44,5 @@ pub fn manhattan(dim: usize, a: &[f64], b: &[f64]) -> f64
     requires { (dim ≤ 8) × (dim ≤ length a.now) × (dim ≤ length b.now) }
     ensures { result ≡ sum_to (size_at a.now b.now) dim }
 {
-    let mut sum = 0.0;
-    let mut i = 0;
-    while i < dim {
-        sum = sum + binary64::abs(a[i] - b[i]);
-        i += 1;
-    }
-    sum
+    sum(dim, |i| binary64::abs(a[i] - b[i]))
 }

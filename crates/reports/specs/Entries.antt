@@ -1,5 +1,5 @@
 -- The entries of a tree, a line each.
-use Rattle.std.specs.Prelude.{ℕ, suc, ◌+◌, ◌*◌, ◌≤◌, ◌<◌, true, ◌≡◌, get_or, Float}
+use Rattle.std.specs.Prelude.{ℕ, suc, ◌+◌, ◌*◌, ◌≤◌, ◌<◌, true, ◌≡◌, get_or, Float, Some}
 use mathlib.Core.List.{List, [], ◌∷◌, ◌++◌, map, append-nil, append_assoc}
 use Rattle.std.proofs.Math.Path.{refl, sym, ap}
 use Rattle.std.proofs.Common.{◌∙◌, add-one, length-append, take-suc, take_all}
@@ -8,7 +8,6 @@ use Rattle.std.proofs.Math.ListN.{length, take}
 use Rattle.std.proofs.Math.Seq.{length-take-le}
 use Rattle.std.specs.Float.Ieee.{to_unsigned}
 use Rattle.binary64.specs.Counts.{is_count, told, count_of}
-use Rattle.binary64.specs.declared.Count.TheVariants.{Rows, NotWhole}
 use Rattle.feature.specs.Summaries.{slots_of, blank}
 use Rattle.feature.specs.Shape.{Shaped}
 use Rattle.feature.specs.declared.Summary.{Summary}
@@ -50,16 +49,9 @@ pub record Reportable (h : Head) (total : ℕ) (fs : List Float) (ls : List ℕ)
 
 -- ---- the weight
 
-rows_told : (e : Summary) → is_count e.weight ≡ true → count_of e.weight ≡ Rows (row_count e)
+pub rows_told : (e : Summary) → is_count e.weight ≡ true → count_of e.weight ≡ Some (row_count e)
 unfolding count_of told row_count
 rows_told e h = ap (λ b. told b (to_unsigned 64 e.weight)) h
-
-module _ (e : Summary) (h : is_count e.weight ≡ true) where
-  pub rows_none : count_of e.weight ≡ NotWhole → ⊥
-  rows_none k = let q = rows_told e h in let z : ◌≡◌ {A = ℕ} 0 1 = cc in absurd (omega arith)
-
-  pub rows_are : (n : ℕ) → count_of e.weight ≡ Rows n → n ≡ row_count e
-  rows_are n k = let q = rows_told e h in cc
 
 -- ---- one line
 

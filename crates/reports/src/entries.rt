@@ -9,20 +9,17 @@ ghost use Rattle.rules.specs.Tree.{row_count};
 
 use crate::fields;
 use arena::entries::summary;
-use binary64::Count;
 use feature::Summary;
 use head::{Counters, Settings};
 use text::writing::write_decimal;
 
 // The rows that an entry stands for.
+#[tactic(auto, using(crate::specs::Entries::rows_told))]
 fn rows_of(e: Summary) -> u64
     requires { is_count e.weight ≡ true }
     ensures { result ≡ row_count e }
 {
-    let Count::Rows(n) = binary64::count_of(e.weight) else {
-        return 0;
-    };
-    n
+    binary64::count_of(e.weight).unwrap_or(0)
 }
 
 // The means and the deviations.

@@ -1,14 +1,13 @@
 -- A summary in its slot: what its parts make together, and what eight numbers read from a part are.
-use Rattle.std.specs.Prelude.{ℕ, zero, suc, ◌+◌, ◌-◌, ◌*◌, ◌≤◌, ◌<◌, min, ◌≡◌, refl, List, [], ◌∷◌, ◌++◌, set, take, replicate, Float}
-use Rattle.std.proofs.Common.{sym, ◌∙◌, ⊎_elim, arith, length-set, take-append-drop, get_or-take, get_or-drop, get_or-set_other, length-take-le, ext_get_or}
+use Rattle.std.specs.Prelude.{ℕ, ◌+◌, ◌-◌, ◌*◌, ◌≤◌, ◌<◌, ◌≡◌, refl, List, [], ◌∷◌, set, take, replicate, Float}
+use Rattle.std.proofs.Common.{sym, ◌∙◌, ⊎_elim, arith, get_or-take, ext_get_or}
 use Rattle.std.proofs.Math.Path.{ap, ap₂}
 use Rattle.std.proofs.Math.ListN.{length, drop}
-use Rattle.std.proofs.lemmas.List.{drop-set-add, take-set-le}
 use Rattle.std.specs.Float.{nan}
 use Rattle.binary64.specs.Operators.{◌⊕◌, ◌⊗◌, ◌⊖◌, f0}
 use Rattle.binary64.specs.Values.{absolute}
 use Rattle.kernels.specs.Channels.{at, up_to, sum_to, square_at}
-use Rattle.kernels.specs.Laws.{length-up_to, up_to_past, up_to-below, up_to-same, up_to_turn, sum_same}
+use Rattle.kernels.specs.Laws.{length-up_to, up_to_past, up_to-below, up_to-same, sum_same}
 use Rattle.feature.specs.Summaries.{Dim, slots_of}
 use Rattle.feature.specs.Steps.{moved_at, added_at, deviated}
 use Rattle.feature.specs.declared.Feature.{Feature}
@@ -28,14 +27,6 @@ use Rattle.rules.specs.Stored.{slots_in_lem}
 abbrev pub Slot : Settings → List Float → Type 0
 Slot s p = length p ≡ 1 + 2 * s.dim
 
--- ---- a rule written over the whole of a list
-
--- n elements written one after the other are the first n of what was read
-pub up_to-all : (n : ℕ) (l p : List Float) → n ≤ length l → length p ≡ n → up_to (at l) n p ≡ take n l
-up_to-all n l p h e =
-    ext_get_or nan (up_to (at l) n p) (take n l) (length-up_to (at l) n p ∙ e ∙ sym (length-take-le n l h))
-    (λ i q. let r : i < n = rw (length-up_to (at l) n p, e) at q in up_to-below (at l) n p i (rw e (omega arith)) r ∙ sym (get_or-take n l i nan r))
-
 -- a rule written over another's numbers
 pub up_to-over : (f g : ℕ → Float) (n : ℕ) (l : List Float) → n ≤ length l → up_to f n (up_to g n l) ≡ up_to f n l
 up_to-over f g n l h =
@@ -43,46 +34,6 @@ up_to-over f g n l h =
     (λ i _.
     ⊎_elim (λ q. up_to-below f n (up_to g n l) i (rw length-up_to h) q ∙ sym (up_to-below f n l i h q))
     (λ q. up_to_past f n (up_to g n l) i q ∙ up_to_past g n l i q ∙ sym (up_to_past f n l i q)) (below? i n))
-
--- ---- a rule written from a place on
-
--- l with a rule's numbers at n places from place k on
-unfoldable pub up_past : ℕ → (ℕ → Float) → ℕ → List Float → List Float
-up_past k f zero l = l
-up_past k f (suc i) l = set (up_past k f i l) (k + i) (f i)
-
-pub length-up_past : (k : ℕ) (f : ℕ → Float) (n : ℕ) (l : List Float) → length (up_past k f n l) ≡ length l
-unfolding up_past
-length-up_past k f zero l = refl
-length-up_past k f (suc i) l = length-set (up_past k f i l) (k + i) (f i) ∙ length-up_past k f i l
-
--- what is not written yet
-pub up_past_other : (k : ℕ) (f : ℕ → Float) (n : ℕ) (l : List Float) (j : ℕ) → k + n ≤ j → at (up_past k f n l) j ≡ at l j
-unfolding up_past
-up_past_other k f zero l j b = refl
-up_past_other k f (suc i) l j b = get_or-set_other (up_past k f i l) (k + i) j (f i) nan (λ e. omega arith) ∙ up_past_other k f i l j (omega arith)
-
-pub up_past_front : (k : ℕ) (f : ℕ → Float) (n : ℕ) (l : List Float) (j : ℕ) → j < k → at (up_past k f n l) j ≡ at l j
-unfolding up_past
-up_past_front k f zero l j a = refl
-up_past_front k f (suc i) l j a = get_or-set_other (up_past k f i l) (k + i) j (f i) nan (λ e. omega arith) ∙ up_past_front k f i l j a
-
-pub up_past_turn : (k : ℕ) (f : ℕ → Float) (n i : ℕ) (l : List Float) → i < n → up_past k f (min (i + 1) n) l ≡ set (up_past k f (min i n) l) (k + i) (f i)
-unfolding up_past
-up_past_turn k f n i l h = let p : min i n ≡ i = omega arith in let q : min (i + 1) n ≡ suc i = omega arith in rw (p, q)
-
-pub up_past_pass : (k : ℕ) (f : ℕ → Float) (n i : ℕ) (l : List Float) → n ≤ i → up_past k f (min (i + 1) n) l ≡ up_past k f (min i n) l
-up_past_pass k f n i l h = ap (λ m. up_past k f m l) (omega arith)
-
-take-up_past : (k : ℕ) (f : ℕ → Float) (n : ℕ) (l : List Float) → take k (up_past k f n l) ≡ take k l
-unfolding up_past
-take-up_past k f zero l = refl
-take-up_past k f (suc i) l = take-set-le k (up_past k f i l) (k + i) (f i) (omega arith) ∙ take-up_past k f i l
-
-drop-up_past : (k : ℕ) (f : ℕ → Float) (n : ℕ) (l : List Float) → drop k (up_past k f n l) ≡ up_to f n (drop k l)
-unfolding up_past up_to
-drop-up_past k f zero l = refl
-drop-up_past k f (suc i) l = drop-set-add k (up_past k f i l) i (f i) ∙ ap (λ m. set m i (f i)) (drop-up_past k f i l)
 
 -- ---- eight numbers of a part
 
@@ -152,28 +103,6 @@ pub ssd_part : (f : Feature) (n j : ℕ) (l : List Float) → Dim n → n ≤ j 
 unfolding ssd_of slots_of
 ssd_part Spherical n j l h g = get_or-take j l 0 nan (omega arith) ∙ sym (eight-at 1 l 0 (omega arith) (omega arith))
 ssd_part Diagonal n j l h g = sum_same _ _ n (λ i q. get_or-take j l i nan (omega arith) ∙ sym (eight-at n l i h.1 q))
-
--- ---- the turns of a push in place
-
-pub shift_turn : (k : Float) (n i : ℕ) (m₀ x m : List Float) → m ≡ up_to (moved_at k m₀ x) (min i n) m₀ → i < n
-    → set m i (at m i ⊕ k ⊗ (at x i ⊖ at m i)) ≡ up_to (moved_at k m₀ x) (min (i + 1) n) m₀
-shift_turn k n i m₀ x m e h =
-    let old : at m i ≡ at m₀ i = ap (λ l. at l i) e ∙ up_to_past (moved_at k m₀ x) (min i n) m₀ i (omega arith) in
-    ap₂ (λ l y. set l i (y ⊕ k ⊗ (at x i ⊖ y))) e old ∙ sym (up_to_turn (moved_at k m₀ x) n i m₀ h)
-
-pub widen_turn : (c : Float) (n i : ℕ) (q₀ x q : List Float) → q ≡ up_past n (added_at c q₀ (drop n q₀) x) (min i n) q₀ → i < n
-    → set q (n + i) (at q (n + i) ⊕ (c ⊗ (at x i ⊖ at q i)) ⊗ (at x i ⊖ at q i)) ≡ up_past n (added_at c q₀ (drop n q₀) x) (min (i + 1) n) q₀
-widen_turn c n i q₀ x q e h =
-    let rule = added_at c q₀ (drop n q₀) x in
-    let mean : at q i ≡ at q₀ i = ap (λ l. at l i) e ∙ up_past_front n rule (min i n) q₀ i h in
-    let deviation : at q (n + i) ≡ at (drop n q₀) i =
-    ap (λ l. at l (n + i)) e ∙ up_past_other n rule (min i n) q₀ (n + i) (omega arith) ∙ sym (get_or-drop n q₀ i nan) in
-    let value = ap₂ (λ y z. z ⊕ (c ⊗ (at x i ⊖ y)) ⊗ (at x i ⊖ y)) mean deviation in
-    ap₂ (λ l y. set l (n + i) y) e value ∙ sym (up_past_turn n rule n i q₀ h)
-
--- the means stay, and the deviations behind them are those of the rule
-pub widened : (f : ℕ → Float) (n : ℕ) (q : List Float) → up_past n f n q ≡ take n q ++ up_to f n (drop n q)
-widened f n q = sym (take-append-drop n (up_past n f n q)) ∙ ap₂ (λ a b. a ++ b) (take-up_past n f n q) (drop-up_past n f n q)
 
 -- ---- what the parts make together
 

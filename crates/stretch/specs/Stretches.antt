@@ -1,12 +1,12 @@
 -- Lists that are written in stretches: what a lent part leaves, and what is read elsewhere.
-use Rattle.std.specs.Prelude.{ℕ, zero, suc, ◌+◌, ◌-◌, ◌*◌, ◌≤◌, ◌<◌, ◌≡◌, refl, ◌⊎◌}
+use Rattle.std.specs.Prelude.{ℕ, suc, ◌+◌, ◌-◌, ◌*◌, ◌≤◌, ◌<◌, ◌≡◌, refl, ◌⊎◌}
 use Rattle.std.proofs.Math.Path.{sym, ap}
 use Rattle.std.proofs.Common.{◌∙◌, inl, inr, mul-le-mul_right, eq-or-lt_of_le, add-one, length-append, length-drop, take-append-drop, drop-cons, length-take-le, take_all, take-suc}
 use Rattle.std.proofs.Math.Logic.{⊎_elim}
 use mathlib.Core.List.{List, [], ◌∷◌, ◌++◌, append_assoc}
 use native.Mathlib.Omega.{arith}
-use Rattle.std.proofs.Math.ListN.{length, get_or, set, take, drop, replicate, length-take}
-use Rattle.std.proofs.lemmas.List.{length-replicate, take-append-le, drop-append-le}
+use Rattle.std.proofs.Math.ListN.{length, get_or, set, take, drop, length-take}
+use Rattle.std.proofs.lemmas.List.{take-append-le, drop-append-le}
 use Rattle.std.proofs.Math.Seq.{set_at, drop-append-add, take_at, drop_at, drop-drop, drop-length}
 use Rattle.rules.specs.Slices.{stretch}
 use Rattle.rules.specs.ListLaws.{below?}
@@ -104,29 +104,6 @@ module _ {A : Type 0} where
   -- all that is behind a front put anew
   pub put_rest : (xs ys zs : List A) (a k : ℕ) → length xs ≡ a → length ys ≡ k → put_stretch (xs ++ ys) a k zs ≡ xs ++ zs
   put_rest xs ys zs a k e f = put_past xs ys zs a k e ∙ ap (λ l. xs ++ (zs ++ l)) (drop_end ys k f) ∙ ap (λ l. xs ++ l) (append-none zs)
-
-  -- ---- zeros: l with its first i elements z
-
-  unfoldable pub zeroed : A → ℕ → List A → List A
-  zeroed z i l = replicate i z ++ drop i l
-
-  one_more_lem : (i : ℕ) (z : A) (ys : List A) → replicate i z ++ (z ∷ ys) ≡ replicate (suc i) z ++ ys
-  one_more_lem zero z ys = refl
-  one_more_lem (suc i) z ys = ap (λ (l : List A). z ∷ l) (one_more_lem i z ys)
-
-  pub zeroed_turn : (z : A) (l : List A) (i : ℕ) → i < length l → set (zeroed z i l) i z ≡ zeroed z (i + 1) l
-  unfolding zeroed
-  zeroed_turn z l i h =
-      ap (λ (m : List A). set (replicate i z ++ m) i z) (drop-cons l i z h)
-      ∙ set_at (replicate i z) (get_or l i z) (drop (suc i) l) z i (length-replicate i z)
-      ∙ one_more_lem i z (drop (suc i) l)
-      ∙ ap (λ n. replicate n z ++ drop n l) (sym (add-one i))
-
-  pub zeroed-all : (z : A) (l : List A) (i : ℕ) → length l ≤ i → i ≤ length l → zeroed z i l ≡ replicate (length l) z
-  unfolding zeroed
-  zeroed-all z l i h k =
-      let e : i ≡ length l = omega arith in
-      rw (e, drop-length l) (append-none (replicate (length l) z))
 
   -- ---- copies: l with its first i elements those of another list
 

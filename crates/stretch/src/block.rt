@@ -14,11 +14,7 @@ const NO_PARENT: u32 = 4_294_967_295;
 pub fn zero(b: &mut [u32])
     ensures { b.new ≡ replicate (length b.old) 0 }
 {
-    let mut i = 0;
-    while i < b.len() {
-        b[i] = 0;
-        i += 1;
-    }
+    b.fill(0);
 }
 
 // The word of a parent.

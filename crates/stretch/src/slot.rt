@@ -1,50 +1,31 @@
 // A summary in its stretch of the float arena: the weight, dim means, dim deviations.
-ghost use Rattle.std.specs.Prelude.{◌≡◌, ◌++◌, ◌+◌, ◌*◌, ◌-◌, ◌≤◌, length, take, drop, replicate};
+ghost use Rattle.std.specs.Prelude.{◌≡◌, ◌++◌, ◌-◌, ◌≤◌, length, take, replicate};
 ghost use Rattle.binary64.specs.Operators.{f0};
-ghost use Rattle.kernels.specs.Channels.{up_to};
-ghost use Rattle.feature.specs.Summaries.{Dim};
-ghost use Rattle.feature.specs.Steps.{moved_at, added_at, deviated};
 ghost use Rattle.feature.specs.Shape.{Shaped};
 ghost use Rattle.distance.specs.Distances.{point_of, between_of};
 ghost use Rattle.head.specs.Limits.{Sized};
 ghost use Rattle.rules.specs.Tree.{push, merge};
 ghost use Rattle.rules.specs.Slices.{summary_in, summary_out};
-ghost use Rattle.stretch.specs.Slots.{Slot, up_past};
+ghost use Rattle.stretch.specs.Slots.{Slot};
 
 use distance::Distance;
-use feature::{Feature, Summary};
+use feature::Summary;
 use head::Settings;
 
 // The floats of p become 0.
 pub fn zero(p: &mut [f64])
     ensures { p.new ≡ replicate (length p.old) f0 }
 {
-    let mut i = 0;
-    while i < p.len() {
-        p[i] = 0.0;
-        i += 1;
-    }
-}
-
-// The first n numbers of an array go to p, which has n.
-fn copy(n: usize, from: [f64; 8], p: &mut [f64])
-    requires { (n ≤ 8) × (length p.old ≡ n) }
-    ensures { p.new ≡ take n from }
-{
-    for i in 0..8 {
-        if i < n {
-            p[i] = from[i];
-        }
-    }
+    p.fill(0.0);
 }
 
 // The first n numbers of an array go to the front of p, and 0 to its end.
-fn fill(n: usize, from: [f64; 8], p: &mut [f64])
-    requires { (n ≤ 8) × (n ≤ length p.old) }
-    ensures { p.new ≡ take n from ++ replicate (length p.old - n) f0 }
+fn fill(n: usize, from: &[f64], p: &mut [f64])
+    requires { (n ≤ length from.now) × (n ≤ length p.old) }
+    ensures { p.new ≡ take n from.now ++ replicate (length p.old - n) f0 }
 {
-    copy(n, from, &mut p[0..n]);
-    zero(&mut p[n..]);
+    p[..n].copy_from_slice(&from[..n]);
+    p[n..].fill(0.0);
 }
 
 // The summary that a slot holds.
@@ -70,15 +51,10 @@ pub fn store(s: Settings, c: Summary, p: &mut [f64])
     requires { Sized s × Slot s p.old }
     ensures { p.new ≡ summary_out s c }
 {
-    let dim = s.dim;
-    let f = s.feature;
-    let n = feature::slots(f, dim);
-    let first = 1 + dim;
-    let m = c.mean;
-    let v = c.deviation;
-    p[0] = c.weight;
-    copy(dim, m, &mut p[1..first]);
-    fill(n, v, &mut p[first..]);
+    let (front, deviations) = p.split_at_mut(1 + s.dim);
+    front[1..].copy_from_slice(&c.mean[..s.dim]);
+    front[0] = c.weight;
+    fill(feature::slots(s.feature, s.dim), &c.deviation, deviations);
 }
 
 // The weight of the summary that a slot holds.
@@ -132,46 +108,6 @@ pub fn to_summary(s: Settings, k: Distance, p: &[f64], c: Summary) -> f64
     distance::to_summary(k, p[0], c.weight, q, u, v)
 }
 
-// The means m, each moved towards x by factor.
-fn shift(dim: usize, factor: f64, m: &mut [f64], x: &[f64])
-    requires { Dim dim × (length m.old ≡ dim) × (dim ≤ length x.now) }
-    ensures { m.new ≡ up_to (moved_at factor m.old x.now) dim m.old }
-{
-    for i in 0..8 {
-        if i < dim {
-            let d = x[i] - m[i];
-            m[i] = m[i] + factor * d;
-        }
-    }
-}
-
-// Behind dim means in q, dim deviations, each with what a step of its mean towards x adds.
-fn widen(dim: usize, coef: f64, q: &mut [f64], x: &[f64])
-    requires { Dim dim × (length q.old ≡ dim + dim) × (dim ≤ length x.now) }
-    ensures { q.new ≡ up_past dim (added_at coef q.old (drop dim q.old) x.now) dim q.old }
-{
-    for i in 0..8 {
-        if i < dim {
-            let d = x[i] - q[i];
-            q[dim + i] = q[dim + i] + coef * d * d;
-        }
-    }
-}
-
-// The deviations behind dim means in q, after a step of the means towards x.
-fn deviate(f: Feature, dim: usize, coef: f64, q: &mut [f64], x: &[f64])
-    requires { Dim dim × (length q.old ≡ dim + dim) × (dim ≤ length x.now) }
-    ensures { q.new ≡ take dim q.old ++ deviated f dim coef q.old (drop dim q.old) x.now }
-{
-    match f {
-        Feature::Spherical => {
-            let sum = kernels::sq_euclidean(dim, x, &q[..dim]);
-            q[dim] = q[dim] + coef * sum;
-        }
-        Feature::Diagonal => widen(dim, coef, q, x),
-    }
-}
-
 // The row, pushed into the summary where it stands: the deviations by the old means, then the means.
 pub fn push(s: Settings, p: &mut [f64], row: &[f64])
     requires { Sized s × Slot s p.old × (s.dim ≤ length row.now) }
@@ -179,13 +115,13 @@ pub fn push(s: Settings, p: &mut [f64], row: &[f64])
 {
     let dim = s.dim;
     let f = s.feature;
-    let first = 1 + dim;
     let weight = p[0] + 1.0;
     let factor = 1.0 / weight;
     let coef = 1.0 - 1.0 / weight;
-    deviate(f, dim, coef, &mut p[1..], row);
-    shift(dim, factor, &mut p[1..first], row);
-    p[0] = weight;
+    let (front, deviations) = p.split_at_mut(1 + dim);
+    feature::deviate(f, dim, coef, &front[1..], deviations, row);
+    feature::shift(dim, factor, &mut front[1..], row);
+    front[0] = weight;
 }
 
 // The summary c, merged into the one that stands there.

@@ -1,5 +1,5 @@
 -- Condition 7's sums: what they lean on, and how they go on place by place.
-use Rattle.std.specs.Prelude.{◌≡◌, ℕ, suc, ◌+◌, ◌<◌, ◌≤◌, Bool, true, false, ◌&&◌, List, map, length, drop, slice_index, refl, Float}
+use Rattle.std.specs.Prelude.{◌≡◌, ℕ, suc, ◌+◌, ◌<◌, ◌≤◌, Bool, true, false, ◌&&◌, List, map, length, drop, slice_index, refl, Float, is_some}
 use Rattle.std.proofs.Math.Path.{sym, ap}
 use Rattle.std.proofs.Common.{◌∙◌, add-one, arith, drop_of_length-le}
 use Rattle.std.specs.Float.Ieee.{le, eq, to_unsigned}
@@ -8,8 +8,7 @@ use Rattle.std.specs.Float.Ieee.Fits.{and_l, and_r}
 use Rattle.binary64.specs.Operators.{◌⊕◌, f0, f1, f2^53}
 use Rattle.binary64.specs.Sums.{sum_from}
 use Rattle.binary64.specs.Whole.{whole}
-use Rattle.binary64.specs.Counts.{is_count, told}
-use Rattle.binary64.specs.declared.Count.TheVariants.{Rows, NotWhole}
+use Rattle.binary64.specs.Counts.{is_count, told, count_of}
 use Rattle.binary64.specs.Range.{Ranged, ranged}
 use Rattle.feature.specs.Summaries.{blank}
 use Rattle.head.specs.declared.Settings.{Settings}
@@ -78,16 +77,14 @@ count_ranged w h =
     ranged w (is_true (le f1 w) (and_l (le f1 w) (le w f2^53 && eq (whole (to_unsigned 64 w)) w) a))
     (is_true (le w f2^53) (and_l (le w f2^53) (eq (whole (to_unsigned 64 w)) w) b))
 
--- a weight that is told as rows is a count, and one that is told as none is not
-pub told_rows : (b : Bool) (n : ℕ) {x : ℕ} → told b n ≡ Rows x → b ≡ true
-unfolding told
-told_rows true n e = refl
-told_rows false n e = let z : ◌≡◌ {A = ℕ} 0 1 = cc in absurd (omega arith)
-
-pub told_none : (b : Bool) (n : ℕ) → told b n ≡ NotWhole → b ≡ false
-unfolding told
-told_none true n e = let z : ◌≡◌ {A = ℕ} 0 1 = cc in absurd (omega arith)
-told_none false n e = refl
+-- a weight is a count where it is told as rows
+pub told_some : (w : Float) → is_some (count_of w) ≡ is_count w
+unfolding count_of told
+told_some w = go (is_count w) (to_unsigned 64 w)
+  where
+    go : (b : Bool) (n : ℕ) → is_some (told b n) ≡ b
+    go true n = refl
+    go false n = refl
 
 -- the rows of the entries, one by one
 pub total-placed : (s : Settings) (n : Counters) (fs : List Float) (ls : List ℕ)

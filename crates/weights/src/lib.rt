@@ -14,17 +14,14 @@ ghost use Rattle.lists.specs.Lent.{ListsFit, EntriesCount};
 ghost use Rattle.weights.specs.Weighable.{Weighable, weight_at};
 
 use arena::{children, entries, links, nodes};
-use binary64::Count;
 use head::{Counters, Head, Settings};
 
 // Whether a weight is a whole number from 1 to 2^53.
+#[tactic(auto, using(crate::specs::Weighable::told_some))]
 fn is_count(w: f64) -> bool
     ensures { result ≡ is_count w }
 {
-    match binary64::count_of(w) {
-        Count::Rows(_) => true,
-        Count::NotWhole => false,
-    }
+    binary64::count_of(w).is_some()
 }
 
 // The rows that a weight counts.

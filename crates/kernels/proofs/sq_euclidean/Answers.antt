@@ -1,0 +1,7 @@
+-- The closure gives the square of each difference.
+use Rattle.std.proofs.Common.{rules}
+use Rattle.kernels.specs.Laws.{sums_up}
+use Rattle.kernels.proofs.sq_euclidean.Goals as goal
+
+pub returns : goal.returns
+returns c = sums_up _ _ _ _ c.sum.ensures (λ i x h p. search rules)

@@ -16,7 +16,7 @@ loop-k-preserved c =
       | then-goes_first w ↦ record {
         dealt = λ ls. rw (w.one-is, w.two-is, w.ones-is, w.twos-is)
             (placed_first _ _ list loop.k loop.ones loop.twos loop.one loop.two more (omega arith)
-            (sym w.if-goes_first.true ∙ first.ensures ls) (loop.invariant.dealt ls));
+            (rw w.if-goes_first.true at first.ensures ls) (loop.invariant.dealt ls));
         all = rw (w.ones-is, w.twos-is) (omega arith);
         one_long = rw w.one-is (simp length-set loop.invariant.one_long);
         two_long = rw w.two-is loop.invariant.two_long;
@@ -24,7 +24,7 @@ loop-k-preserved c =
       | else-goes_first w ↦ record {
         dealt = λ ls. rw (w.one-is, w.two-is, w.ones-is, w.twos-is)
             (placed_second _ _ list loop.k loop.ones loop.twos loop.one loop.two more (omega arith)
-            (sym w.if-goes_first.false ∙ first.ensures ls) (loop.invariant.dealt ls));
+            (rw w.if-goes_first.false at first.ensures ls) (loop.invariant.dealt ls));
         all = rw (w.ones-is, w.twos-is) (omega arith);
         one_long = rw w.one-is loop.invariant.one_long;
         two_long = rw w.two-is (simp length-set loop.invariant.two_long);

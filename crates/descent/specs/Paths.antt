@@ -1,5 +1,5 @@
 -- The way down and the way up, one step at a time.
-use Prim.Native.Nat.{ℕ, zero, suc, ◌-◌, ◌<◌}
+use Prim.Native.Nat.{ℕ, zero, suc, ◌+◌, ◌-◌, ◌<◌, ◌≤◌}
 use Rattle.std.specs.Prelude.{◌≡◌, true, false, List, length, Float, Option, None, Some}
 use Rattle.std.proofs.Math.Path.{refl}
 use native.Mathlib.Omega.{arith}
@@ -14,9 +14,9 @@ use Rattle.arena.specs.Trees.{count_nodes_lem, on_node}
 -- ---- down
 
 pub down_start : (s : Settings) (n : Counters) (fs : List Float) (ls : List ℕ) (f : Summary → Float)
-    → descended (tree_of s n fs ls) f n.nodes n.root ≡ leaf_for (tree_of s n fs ls) f
+    → descended (tree_of s n fs ls) f (n.nodes - 0) n.root ≡ leaf_for (tree_of s n fs ls) f
 unfolding leaf_for tree_of
-down_start s n fs ls f = rw (count_nodes_lem s n fs ls)
+down_start s n fs ls f = let all : n.nodes - 0 ≡ n.nodes = omega arith in rw (all, count_nodes_lem s n fs ls)
 
 module _ (t : Tree) (f : Summary → Float) where
   pub down_leaf : (k i : ℕ) → (node_at t i).leaf ≡ true → descended t f k i ≡ i
@@ -24,15 +24,19 @@ module _ (t : Tree) (f : Summary → Float) where
   down_leaf zero i h = refl
   down_leaf (suc k) i h = rw (h, descended)
 
-  pub down_on : (k i : ℕ) {j : ℕ} → 0 < k → (node_at t i).leaf ≡ false → j ≡ closest (λ c. f (node_at t c).summary) (node_at t i).list
-      → descended t f (k - 1) j ≡ descended t f k i
+  step : (k i : ℕ) {j : ℕ} → (node_at t i).leaf ≡ false → j ≡ closest (λ c. f (node_at t c).summary) (node_at t i).list
+      → descended t f k j ≡ descended t f (suc k) i
   unfolding descended
-  down_on zero i l h e = absurd (omega arith)
-  down_on (suc k) i l h e = let p : suc k - 1 ≡ k = omega arith in rw (h, descended, p, e)
+  step k i h e = rw (h, descended, e)
 
-  pub down_end : (k i : ℕ) → k ≡ 0 → descended t f k i ≡ i
+  -- after c of n steps
+  pub down_on : (n c i : ℕ) {j : ℕ} → c < n → (node_at t i).leaf ≡ false → j ≡ closest (λ c. f (node_at t c).summary) (node_at t i).list
+      → descended t f (n - (c + 1)) j ≡ descended t f (n - c) i
+  down_on n c i l h e = let p : n - c ≡ suc (n - (c + 1)) = omega arith in rw p (step (n - (c + 1)) i h e)
+
+  pub down_end : (n c i : ℕ) → n ≤ c → descended t f (n - c) i ≡ i
   unfolding descended
-  down_end k i e = rw (e, descended)
+  down_end n c i h = let none : n - c ≡ 0 = omega arith in rw (none, descended)
 
 -- ---- up
 

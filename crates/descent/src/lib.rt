@@ -3,6 +3,7 @@
 
 pub mod form;
 pub mod leaf;
+pub mod nearest;
 pub mod path;
 
 ghost use Rattle.std.specs.Prelude.{◌≡◌, false, ◌<◌, length};
@@ -14,6 +15,7 @@ ghost use Rattle.laws.specs.ForCode.{Sure};
 ghost use Rattle.descent.specs.Forms.{FormFits, item_of};
 
 use crate::form::Form;
+use crate::nearest::nearest;
 use arena::links;
 use head::{Counters, Settings};
 
@@ -30,19 +32,7 @@ pub fn nearest_child(
     ensures any_links { AnyLinks s n floats.now (λ t. result ≡ closest (λ c. (item_of s form x.now).near (node_at t c).summary) list.now) }
     ensures upper_bound { result < n.nodes }
 {
-    let mut best = list[0] as usize;
-    let mut least = form::to_node(s, n, floats, best, form, x);
-    let mut k = 1;
-    while k < list.len() {
-        let c = list[k] as usize;
-        let d = form::to_node(s, n, floats, c, form, x);
-        if d < least {
-            least = d;
-            best = c;
-        }
-        k += 1;
-    }
-    best
+    nearest(list, |c| form::to_node(s, n, floats, c, form, x))
 }
 
 // From the root down to the leaf that an item belongs to.
@@ -53,13 +43,11 @@ fn go_down(s: Settings, n: Counters, floats: &[f64], links: &[u32], form: Form, 
     ensures upper_bound { result < n.nodes }
 {
     let mut i = n.root;
-    let mut left = n.nodes;
-    while left > 0 {
+    for _ in 0..n.nodes {
         if links::is_leaf(s, n, links, i) {
             return i;
         }
         i = nearest_child(s, n, floats, links::list(s, n, links, i), form, x);
-        left -= 1;
     }
     i
 }

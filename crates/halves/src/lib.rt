@@ -79,16 +79,14 @@ pub fn halves_of(
     let mut two = [0u32; 17];
     let mut ones = 0;
     let mut twos = 0;
-    let mut k = 0;
-    while k < list.len() {
+    for (k, c) in list.iter().enumerate() {
         if goes_first(s, n, floats, leaf, list, w, k, ones, twos) {
-            one[ones] = list[k];
+            one[ones] = *c;
             ones += 1;
         } else {
-            two[twos] = list[k];
+            two[twos] = *c;
             twos += 1;
         }
-        k += 1;
     }
     Halves {
         one,

@@ -38,15 +38,13 @@ fn wider(
     let mut a = w.a;
     let mut b = w.b;
     let mut most = w.most;
-    let mut j = k + 1;
-    while j < list.len() {
+    for j in k + 1..list.len() {
         let d = children::between(s, n, floats, leaf, c, list[j] as usize, dist);
         if most < d {
             a = k;
             b = j;
             most = d;
         }
-        j += 1;
     }
     Seeds { a, b, most }
 }
@@ -62,10 +60,8 @@ pub fn seeds_of(s: Settings, n: Counters, floats: &[f64], leaf: bool, list: &[u3
         b: 1,
         most: 0.0,
     };
-    let mut k = 0;
-    while k < list.len() {
+    for k in 0..list.len() {
         w = wider(s, n, floats, leaf, list, k, w);
-        k += 1;
     }
     w
 }

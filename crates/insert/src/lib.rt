@@ -54,10 +54,8 @@ pub fn insert_all(
         ≡ inserted_all s (rows_of count s.dim rows.now) (tree_of s n floats.old links.old) }
 {
     let mut m = n;
-    let mut k = 0;
-    while k < count {
+    for k in 0..count {
         m = insert(s, m, floats, links, scratch, numbers, row(s, rows, k));
-        k += 1;
     }
     m
 }

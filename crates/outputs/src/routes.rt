@@ -26,9 +26,7 @@ pub fn write_routes(
     ensures { out.new ≡ fronted
         (map (greedy s (tree_of s n floats.now links.now)) (rows_of count s.dim rows.now)) out.old }
 {
-    let mut k = 0;
-    while k < count {
+    for k in 0..count {
         out[k] = route(s, n, floats, links, row(s, rows, k)) as u32;
-        k += 1;
     }
 }

@@ -31,10 +31,8 @@ fn write_one(s: Settings, n: Counters, floats: &[f64], i: usize, out: &mut [f64]
     ensures { AnyLinks s n floats.now (λ t. out.new ≡ spread_of s.feature s.dim (entry_at t i)) }
 {
     let e = entries::summary(s, n, floats, i);
-    let mut k = 0;
-    while k < out.len() {
-        out[k] = spread_at(s, e, k);
-        k += 1;
+    for (k, o) in out.iter_mut().enumerate() {
+        *o = spread_at(s, e, k);
     }
 }
 
@@ -44,10 +42,9 @@ pub fn write_spread(s: Settings, n: Counters, floats: &[f64], out: &mut [f64])
     ensures { AnyLinks s n floats.now (λ t.
         out.new ≡ fronted (concat (map (spread_of s.feature s.dim) t.entries)) out.old) }
 {
-    let mut i = 0;
-    while i < n.entries {
+    // by places: after `chunks_exact_mut` a proof knows the output's length, and not its numbers
+    for i in 0..n.entries {
         let at = i * s.dim;
         write_one(s, n, floats, i, &mut out[at..at + s.dim]);
-        i += 1;
     }
 }

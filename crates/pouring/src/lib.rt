@@ -27,10 +27,8 @@ fn empty_slots(s: Settings, scratch: &mut [f64], count: usize)
     requires { Sized s × (count ≤ entry_cap s) × (entry_cap s * slot_width s ≤ length scratch.old) }
     ensures { slots_in s scratch.new count ≡ replicate count blank }
 {
-    let mut i = 0;
-    while i < count {
+    for i in 0..count {
         slots::store(s, scratch, i, feature::empty());
-        i += 1;
     }
 }
 
@@ -50,12 +48,10 @@ fn pour_rows(
         ≡ poured s (greedy s (tree_of s n floats.now links.now)) (rows_of count s.dim rows.now)
         (slots_in s scratch.old n.entries) }
 {
-    let mut k = 0;
-    while k < count {
+    for k in 0..count {
         let x = row(s, rows, k);
         let e = route(s, n, floats, links, x);
         slots::push(s, scratch, e, x);
-        k += 1;
     }
 }
 
@@ -83,10 +79,8 @@ fn put_back(s: Settings, n: Counters, floats: &mut [f64], scratch: &[f64])
     requires { Floats s n (length floats.old) × (entry_cap s * slot_width s ≤ length scratch.now) }
     ensures { FloatsTo s n floats.old n floats.new (with_entries (slots_in s scratch.now n.entries)) }
 {
-    let mut i = 0;
-    while i < n.entries {
+    for i in 0..n.entries {
         entries::put(s, n, floats, i, slots::load(s, scratch, i));
-        i += 1;
     }
 }
 
@@ -111,12 +105,10 @@ fn flag_all(s: Settings, n: Counters, floats: &[f64], numbers: &mut [u32]) -> bo
     ensures value { result ≡ every (λ b. b) (alive_in numbers.new n.entries) }
 {
     let mut all = true;
-    let mut i = 0;
-    while i < n.entries {
+    for i in 0..n.entries {
         if !flag_used(s, n, floats, numbers, i) {
             all = false;
         }
-        i += 1;
     }
     all
 }

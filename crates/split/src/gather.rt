@@ -16,15 +16,9 @@ pub fn gather(s: Settings, n: Counters, floats: &[f64], leaf: bool, list: &[u32]
 {
     let f = s.feature;
     let mut sum = feature::empty();
-    let mut k = 0;
-    while k < list.len() {
-        sum = feature::merge(
-            f,
-            s.dim,
-            sum,
-            children::summary(s, n, floats, leaf, list[k] as usize),
-        );
-        k += 1;
+    for c in list {
+        let summary = children::summary(s, n, floats, leaf, *c as usize);
+        sum = feature::merge(f, s.dim, sum, summary);
     }
     sum
 }

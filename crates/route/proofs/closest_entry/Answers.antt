@@ -1,0 +1,10 @@
+-- The distance may be asked for each of the list, since each is an entry.
+use Rattle.std.proofs.Common.{rules}
+use Rattle.bounds.specs.Sure.{entry_listed}
+use Rattle.route.proofs.closest_entry.Goals as goal
+
+pub nearest-requires-clause-may_ask : goal.nearest-requires-clause-may_ask
+nearest-requires-clause-may_ask c k h = let there = entry_listed _ _ c.requires.3 k h in search rules
+
+pub returns-clause-upper_bound : goal.returns-clause-upper_bound
+returns-clause-upper_bound c = let l = c.nearest.ensures.listed in rw l.2 (entry_listed _ _ c.requires.3 l.0 l.1)

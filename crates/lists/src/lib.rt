@@ -3,8 +3,8 @@
 
 pub mod rooted;
 
-ghost use Rattle.std.specs.Prelude.{◌≡◌, ◌&&◌, ◌||◌, ◌<◌, ltb, length};
-ghost use Rattle.rules.specs.Lists.{every};
+ghost use Rattle.std.specs.Prelude.{◌≡◌, ℕ, Bool, ◌&&◌, ◌||◌, ◌<◌, ltb, length};
+ghost use Rattle.rules.specs.Lists.{every, up_from};
 ghost use Rattle.rules.specs.Tree.{node_at, cap};
 ghost use Rattle.rules.specs.Check.{known, list_fits, lone_root, filled};
 ghost use Rattle.arena.specs.Trees.{AnyFloats, Links};
@@ -31,13 +31,20 @@ fn below(s: Settings, n: Counters, links: &[u32], i: usize, bound: usize) -> boo
     requires { Links s n (length links.now) × (i < n.nodes) }
     ensures { AnyFloats s n links.now (λ t. result ≡ every (λ c. ltb c bound) (node_at t i).list) }
 {
-    let len = links::list_len(s, n, links, i);
-    let mut k = 0;
-    while k < len {
-        if links::list_at(s, n, links, i, k) >= bound {
+    links::list(s, n, links, i)
+        .iter()
+        .all(|c| (*c as usize) < bound)
+}
+
+// Whether a test holds of every number below n.
+pub fn every_node<F: Fn(usize) -> bool>(n: usize, test: F) -> bool
+    requires { (k : ℕ) → k < n → F.pre test k }
+    ensures { (f : ℕ → Bool) → ((k : ℕ) (b : Bool) → k < n → F.post test k b → b ≡ f k) → result ≡ every f (up_from n 0) }
+{
+    for k in 0..n {
+        if !test(k) {
             return false;
         }
-        k += 1;
     }
     true
 }
@@ -59,14 +66,7 @@ pub fn lists_fit(s: Settings, n: Counters, links: &[u32]) -> bool
     requires { Links s n (length links.now) }
     ensures { AnyFloats s n links.now (λ t. result ≡ every (list_fits s t) t.nodes) }
 {
-    let mut i = 0;
-    while i < n.nodes {
-        if !list_fits(s, n, links, i) {
-            return false;
-        }
-        i += 1;
-    }
-    true
+    every_node(n.nodes, |i| list_fits(s, n, links, i))
 }
 
 // Whether node i lists something, or is a lone root leaf with no entries.
@@ -91,12 +91,5 @@ pub fn filled(s: Settings, n: Counters, links: &[u32]) -> bool
     requires { Links s n (length links.now) }
     ensures { AnyFloats s n links.now (λ t. result ≡ filled t) }
 {
-    let mut i = 0;
-    while i < n.nodes {
-        if !list_filled(s, n, links, i) {
-            return false;
-        }
-        i += 1;
-    }
-    true
+    every_node(n.nodes, |i| list_filled(s, n, links, i))
 }

@@ -9,5 +9,5 @@ pub returns : goal.returns
 unfolding filled
 returns c = λ fs.
     let t : Tree = tree_of c.args.s c.args.n fs c.args.links.now in
-    c.every_node.ensures (λ k. ltb 0 (length (node_at t k).list) || ((node_at t k).leaf && lone_root t)) (λ k b l h. search rules)
+    c.every_below.ensures (λ k. ltb 0 (length (node_at t k).list) || ((node_at t k).leaf && lone_root t)) (λ k b l h. search rules)
     ∙ nodes_placed c.args.s c.args.n fs c.args.links.now _

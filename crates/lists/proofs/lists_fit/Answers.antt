@@ -8,5 +8,5 @@ use Rattle.lists.proofs.lists_fit.Goals as goal
 pub returns : goal.returns
 returns c = λ fs.
     let t : Tree = tree_of c.args.s c.args.n fs c.args.links.now in
-    c.every_node.ensures (λ k. list_fits c.args.s t (node_at t k)) (λ k b l h. search rules)
+    c.every_below.ensures (λ k. list_fits c.args.s t (node_at t k)) (λ k b l h. search rules)
     ∙ nodes_placed c.args.s c.args.n fs c.args.links.now _

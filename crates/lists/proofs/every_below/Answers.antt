@@ -1,6 +1,6 @@
 use Rattle.std.proofs.Common.{sym, refl, false, true, arith}
 use Rattle.lists.specs.Loops.{fails_at, passed_all}
-use Rattle.lists.proofs.every_node.Goals as goal
+use Rattle.lists.proofs.every_below.Goals as goal
 
 pub returns-then-not-test : goal.returns-then-not-test
 returns-then-not-test g c = λ f h. fails_at f c.args.n c.loop-k.k c.loop-k-test.true (h c.loop-k.k false c.loop-k-test.true c.if-not-test.ensures) refl

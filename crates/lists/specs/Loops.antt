@@ -5,6 +5,7 @@ use Rattle.std.proofs.Math.Path.{refl, sym, ap}
 use Rattle.std.proofs.Common.{◌∙◌, subst, inl, inr, add-one, arith}
 use Rattle.std.proofs.Math.Bool.{true, false}
 use mathlib.Core.List.{List, [], ◌∷◌, map}
+use Rattle.std.specs.List.{list_all, range_with_len}
 use Rattle.std.specs.Float.Ieee.Bits.{is_true}
 use Rattle.feature.specs.declared.Summary.{Summary}
 use Rattle.rules.specs.Lists.{every, up_from, occurs}
@@ -85,6 +86,18 @@ module _ {A : Type 0} (f : A → Bool) (d : A) where
 
   pub placed : (xs : List A) {n : ℕ} → n ≡ length xs → every (λ k. f (get_or xs k d)) (up_from n 0) ≡ every f xs
   placed xs e = rw e (sym (every-places xs))
+
+-- ---- what `all` answers
+
+pub every_all : {A : Type 0} (f : A → Bool) (l : List A) → list_all f l ≡ every f l
+unfolding every
+every_all f [] = refl
+every_all f (x ∷ l) = ap (λ b. f x && b) (every_all f l)
+
+pub up_range : (n i : ℕ) → range_with_len i n ≡ up_from n i
+unfolding up_from
+up_range zero i = refl
+up_range (suc n) i = ap (λ l. i ∷ l) (rw (add-one i) (up_range n (suc i)))
 
 -- ---- places
 

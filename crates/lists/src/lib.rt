@@ -3,8 +3,8 @@
 
 pub mod rooted;
 
-ghost use Rattle.std.specs.Prelude.{◌≡◌, ◌&&◌, ◌||◌, ◌<◌, ltb, length};
-ghost use Rattle.rules.specs.Lists.{every};
+ghost use Rattle.std.specs.Prelude.{◌≡◌, ℕ, Bool, ◌==◌, ◌&&◌, ◌||◌, ◌<◌, ltb, length};
+ghost use Rattle.rules.specs.Lists.{every, up_from};
 ghost use Rattle.rules.specs.Tree.{node_at, cap};
 ghost use Rattle.rules.specs.Check.{known, list_fits, lone_root, filled};
 ghost use Rattle.arena.specs.Trees.{AnyFloats, Links};
@@ -31,13 +31,20 @@ fn below(s: Settings, n: Counters, links: &[u32], i: usize, bound: usize) -> boo
     requires { Links s n (length links.now) × (i < n.nodes) }
     ensures { AnyFloats s n links.now (λ t. result ≡ every (λ c. ltb c bound) (node_at t i).list) }
 {
-    let len = links::list_len(s, n, links, i);
-    let mut k = 0;
-    while k < len {
-        if links::list_at(s, n, links, i, k) >= bound {
+    links::list(s, n, links, i)
+        .iter()
+        .all(|c| (*c as usize) < bound)
+}
+
+// Whether a test holds of every number below n.
+pub fn every_below<F: Fn(usize) -> bool>(n: usize, test: F) -> bool
+    requires { (k : ℕ) → k < n → F.pre test k }
+    ensures { (f : ℕ → Bool) → ((k : ℕ) (b : Bool) → k < n → F.post test k b → b ≡ f k) → result ≡ every f (up_from n 0) }
+{
+    for k in 0..n {
+        if !test(k) {
             return false;
         }
-        k += 1;
     }
     true
 }
@@ -48,10 +55,8 @@ fn list_fits(s: Settings, n: Counters, links: &[u32], i: usize) -> bool
     ensures { AnyFloats s n links.now (λ t. result ≡ list_fits s t (node_at t i)) }
 {
     let leaf = links::is_leaf(s, n, links, i);
-    if links::list_len(s, n, links, i) > cap(s, leaf) {
-        return false;
-    }
-    below(s, n, links, i, known(s, n, links, leaf))
+    links::list_len(s, n, links, i) <= cap(s, leaf)
+        && below(s, n, links, i, known(s, n, links, leaf))
 }
 
 // Condition 3: no list is over its cap; every child number exists.
@@ -59,14 +64,14 @@ pub fn lists_fit(s: Settings, n: Counters, links: &[u32]) -> bool
     requires { Links s n (length links.now) }
     ensures { AnyFloats s n links.now (λ t. result ≡ every (list_fits s t) t.nodes) }
 {
-    let mut i = 0;
-    while i < n.nodes {
-        if !list_fits(s, n, links, i) {
-            return false;
-        }
-        i += 1;
-    }
-    true
+    every_below(n.nodes, |i| list_fits(s, n, links, i))
+}
+
+// Whether there is one node and no entry.
+fn lone_root(n: Counters) -> bool
+    ensures { result ≡ (n.nodes == 1) && (n.entries == 0) }
+{
+    n.nodes == 1 && n.entries == 0
 }
 
 // Whether node i lists something, or is a lone root leaf with no entries.
@@ -74,16 +79,7 @@ fn list_filled(s: Settings, n: Counters, links: &[u32], i: usize) -> bool
     requires { Links s n (length links.now) × (i < n.nodes) }
     ensures { AnyFloats s n links.now (λ t. result ≡ ltb 0 (length (node_at t i).list) || ((node_at t i).leaf && lone_root t)) }
 {
-    if 0 < links::list_len(s, n, links, i) {
-        return true;
-    }
-    if !links::is_leaf(s, n, links, i) {
-        return false;
-    }
-    if n.nodes != 1 {
-        return false;
-    }
-    n.entries == 0
+    links::list_len(s, n, links, i) > 0 || (links::is_leaf(s, n, links, i) && lone_root(n))
 }
 
 // Condition 5: no list is empty, but for a lone root leaf with no entries.
@@ -91,12 +87,5 @@ pub fn filled(s: Settings, n: Counters, links: &[u32]) -> bool
     requires { Links s n (length links.now) }
     ensures { AnyFloats s n links.now (λ t. result ≡ filled t) }
 {
-    let mut i = 0;
-    while i < n.nodes {
-        if !list_filled(s, n, links, i) {
-            return false;
-        }
-        i += 1;
-    }
-    true
+    every_below(n.nodes, |i| list_filled(s, n, links, i))
 }

@@ -1,6 +1,6 @@
 -- Each entry once, by one pass over the leaf lists with the set of those met: as many as the entries, all below their count, none twice.
 use Prim.Native.Nat.{ℕ, ◌+◌, ◌≤◌, ◌<◌}
-use Rattle.std.specs.Prelude.{◌≡◌, ◌⊎◌, ◌≢◌, Bool, cond, ◌&&◌, List, [], eqb, Float, get_or}
+use Rattle.std.specs.Prelude.{◌≡◌, ◌⊎◌, ◌≢◌, Bool, cond, ◌&&◌, List, [], Option, Some, None, eqb, Float, get_or}
 use Rattle.std.proofs.Math.Path.{refl, ap, subst}
 use Rattle.std.proofs.Common.{sym, ◌∙◌, inl, inr}
 use Rattle.std.proofs.Math.Bool.{true, false}
@@ -24,8 +24,6 @@ use Rattle.laws.specs.Check.Passing.{every_up, once_each_lem}
 use Rattle.lists.specs.Loops.{fails_at, passed_all, sum-none, sum_more, sum_grows, occurs-places}
 use Rattle.lists.specs.Lent.{leaf_list, holds, leaves_occurs}
 use Rattle.seen.specs.declared.Seen.{Seen}
-use Rattle.seen.specs.declared.Marks.{Marks}
-use Rattle.seen.specs.declared.Marks.TheVariants as M
 use Rattle.seen.specs.Sets.{Holds, Marked, marked_apart, marked_twice, none, times, times_none, times-few, with, with-new}
 use Rattle.counting.specs.Tests.{every-at, up_at, in_at}
 
@@ -86,7 +84,7 @@ module _ (seen : Seen) (l : List ℕ) where
       ap (λ (z : Seen). times z c) w ∙ (let d = h c in omega arith)
 
   pub list_twice : (k e : ℕ) (z : Seen) {b : Bool} → Holds z (marks_at k) → e ≡ get_or l k 0 → k < length l → b ≡ eqb (times z e) 1 → b ≡ true
-      → Marked M.Twice (λ c. times seen c + occurs c l)
+      → Marked None (λ c. times seen c + occurs c l)
   unfolding marks_at Marked
   list_twice k e z h p q t f =
       let old : times z e ≡ 1 = eqb-true (times z e) 1 (sym t ∙ f) in
@@ -97,7 +95,7 @@ module _ (seen : Seen) (l : List ℕ) where
       (e, omega arith)
 
   pub list_end : (k : ℕ) (z : Seen) {len : ℕ} → Holds z (marks_at k) → k ≤ len → len ≤ k → len ≡ length l
-      → Marked (M.Apart z) (λ c. times seen c + occurs c l)
+      → Marked (Some z) (λ c. times seen c + occurs c l)
   unfolding marks_at Marked
   list_end k z h p q e c =
       let w : k ≡ length l = omega arith in
@@ -116,13 +114,13 @@ module _ (t : Tree) where
   unfolding leaves_to sum_to
   leaves_start e c = ap (λ (z : Seen). times z c) e ∙ times_none c
 
-  pub leaves_turn : (i : ℕ) (z : Seen) {y : Seen} {r : Marks} → Holds z (leaves_to i) → Marked r (λ c. times z c + occurs c (leaf_list (node_at t i)))
-      → r ≡ M.Apart y → Holds y (leaves_to (i + 1))
+  pub leaves_turn : (i : ℕ) (z : Seen) {y : Seen} {r : Option Seen} → Holds z (leaves_to i) → Marked r (λ c. times z c + occurs c (leaf_list (node_at t i)))
+      → r ≡ Some y → Holds y (leaves_to (i + 1))
   unfolding leaves_to
   leaves_turn i z h m e c =
       marked_apart (λ c. times z c + occurs c (leaf_list (node_at t i))) m e c ∙ sum_more (λ j. occurs c (leaf_list (node_at t j))) i (h c) refl
 
-  leaves_twice : (i : ℕ) (z : Seen) {r : Marks} → Holds z (leaves_to i) → Marked r (λ c. times z c + occurs c (leaf_list (node_at t i))) → r ≡ M.Twice
+  leaves_twice : (i : ℕ) (z : Seen) {r : Option Seen} → Holds z (leaves_to i) → Marked r (λ c. times z c + occurs c (leaf_list (node_at t i))) → r ≡ None
       → (c : ℕ) × (2 ≤ leaves_to (i + 1) c)
   unfolding leaves_to
   leaves_twice i z h m e =
@@ -157,8 +155,8 @@ module _ (s : Settings) (n : Counters) (fs : List Float) (ls : List ℕ) (h : ev
       rw (count_entries_lem s n fs ls) at b
 
   -- node i lists a number that was met
-  pub some_twice : (i : ℕ) (z : Seen) {r : Marks} → Holds z (leaves_to (tree_of s n fs ls) i)
-      → Marked r (λ c. times z c + occurs c (leaf_list (node_at (tree_of s n fs ls) i))) → r ≡ M.Twice → i < n.nodes
+  pub some_twice : (i : ℕ) (z : Seen) {r : Option Seen} → Holds z (leaves_to (tree_of s n fs ls) i)
+      → Marked r (λ c. times z c + occurs c (leaf_list (node_at (tree_of s n fs ls) i))) → r ≡ None → i < n.nodes
       → false ≡ none_twice n.entries (leaf_lists (tree_of s n fs ls).nodes)
   unfolding none_twice leaves_to
   some_twice i z g m e q =

@@ -12,7 +12,7 @@ ghost use Rattle.seen.specs.Sets.{Marked, times};
 
 use arena::links;
 use head::{Counters, Settings};
-use seen::{Marks, Seen};
+use seen::Seen;
 
 // How many entries node i lists.
 fn leaf_len(s: Settings, n: Counters, links: &[u32], i: usize) -> usize
@@ -32,42 +32,37 @@ fn leaves_len(s: Settings, n: Counters, links: &[u32]) -> usize
     ensures { AnyFloats s n links.now (λ t. result ≡ length (leaf_lists t.nodes)) }
 {
     let mut sum = 0;
-    let mut i = 0;
-    while i < n.nodes {
+    for i in 0..n.nodes {
         sum += leaf_len(s, n, links, i);
-        i += 1;
     }
     sum
 }
 
 // The set with the list of leaf i in it, or that a number is there twice.
-fn list_marks(s: Settings, n: Counters, links: &[u32], i: usize, seen: Seen) -> Marks
+fn list_marks(s: Settings, n: Counters, links: &[u32], i: usize, seen: Seen) -> Option<Seen>
     requires { Links s n (length links.now) × ListsFit s n links.now × (n.entries ≤ 256) × (i < n.nodes) × Leaf s n links.now i }
     ensures { AnyFloats s n links.now (λ t. Marked result (λ c. times seen c + occurs c (node_at t i).list)) }
 {
-    let len = links::list_len(s, n, links, i);
     let mut set = seen;
-    let mut k = 0;
-    while k < len {
-        let e = links::list_at(s, n, links, i, k);
-        if seen::has(set, e) {
-            return Marks::Twice;
+    for e in links::list(s, n, links, i) {
+        let entry = *e as usize;
+        if set.has(entry) {
+            return None;
         }
-        set = seen::add(set, e);
-        k += 1;
+        set = set.add(entry);
     }
-    Marks::Apart(set)
+    Some(set)
 }
 
 // The set with the entries that node i lists in it, or that one is there twice.
-fn leaf_marks(s: Settings, n: Counters, links: &[u32], i: usize, seen: Seen) -> Marks
+fn leaf_marks(s: Settings, n: Counters, links: &[u32], i: usize, seen: Seen) -> Option<Seen>
     requires { Links s n (length links.now) × ListsFit s n links.now × (n.entries ≤ 256) × (i < n.nodes) }
     ensures { AnyFloats s n links.now (λ t. Marked result (λ c. times seen c + occurs c (leaf_list (node_at t i)))) }
 {
     if links::is_leaf(s, n, links, i) {
         list_marks(s, n, links, i, seen)
     } else {
-        Marks::Apart(seen)
+        Some(seen)
     }
 }
 
@@ -76,14 +71,12 @@ fn none_twice(s: Settings, n: Counters, links: &[u32]) -> bool
     requires { Links s n (length links.now) × ListsFit s n links.now × (n.entries ≤ 256) }
     ensures { AnyFloats s n links.now (λ t. result ≡ none_twice n.entries (leaf_lists t.nodes)) }
 {
-    let mut seen = seen::none();
-    let mut i = 0;
-    while i < n.nodes {
-        let Marks::Apart(more) = leaf_marks(s, n, links, i, seen) else {
+    let mut seen = Seen::new();
+    for i in 0..n.nodes {
+        let Some(more) = leaf_marks(s, n, links, i, seen) else {
             return false;
         };
         seen = more;
-        i += 1;
     }
     true
 }
@@ -93,8 +86,5 @@ pub fn once_each(s: Settings, n: Counters, links: &[u32]) -> bool
     requires { Links s n (length links.now) × ListsFit s n links.now × (n.entries ≤ 256) }
     ensures { AnyFloats s n links.now (λ t. result ≡ once_each (length t.entries) (leaf_lists t.nodes)) }
 {
-    if leaves_len(s, n, links) != n.entries {
-        return false;
-    }
-    none_twice(s, n, links)
+    leaves_len(s, n, links) == n.entries && none_twice(s, n, links)
 }

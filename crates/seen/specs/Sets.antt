@@ -1,21 +1,21 @@
 -- A set of numbers below 256, a bit each in four words: what it holds after one more.
-use Rattle.std.specs.Prelude.{ℕ, zero, suc, ◌+◌, ◌*◌, ◌/◌, ◌%◌, ◌^◌, ◌≤◌, ◌<◌, max, ◌≡◌, refl, ◌⊎◌, ◌≢◌, cond, [], ◌∷◌, eqb, get_or}
-use Rattle.std.proofs.Common.{sym, ap, ap₂, ◌∙◌, subst, inl, inr, one-mul, arith, eq-eqb, ne_eqb, lit<, shr-shr, shl_exact}
+use Rattle.std.specs.Prelude.{ℕ, zero, suc, ◌+◌, ◌*◌, ◌/◌, ◌%◌, ◌^◌, ◌≤◌, ◌<◌, max, ◌≡◌, refl, ◌⊎◌, ◌≢◌, cond, eqb, Option, Some, None, List, [], ◌∷◌, map, replicate, length, get_or, set, take}
+use Rattle.std.proofs.Common.{sym, ap, ap₂, ◌∙◌, subst, inl, inr, one-mul, arith, eq-eqb, ne_eqb, lit<, shr-shr, shl_exact, length-take}
 use Rattle.std.proofs.Math.Arith.{digits_div, digits_mod}
-use Rattle.std.specs.Int.Bits.{bit_and, bit_or, or_step, shifted_half, shifted_even}
+use Rattle.std.specs.Int.Bits.{bit_and, bit_or, or_step, or_zero_l, or_zero_r, shifted_half, shifted_even}
+use Rattle.std.proofs.Math.ListN.{length-set}
 use Rattle.std.proofs.lemmas.Nat.{and_mask}
+use Rattle.std.proofs.lemmas.List.{get_or_past, get_or-take, get_or-set_same, get_or-set_other}
 use Rattle.counting.specs.Count.{is, is_same, is_other, same?}
 use Rattle.seen.specs.declared.Seen.{Seen}
-use Rattle.seen.specs.declared.Marks.{Marks}
-use Rattle.seen.specs.declared.Marks.TheVariants as M
 
 -- no number
 unfoldable pub none : Seen
-none = record { w0 = 0; w1 = 0; w2 = 0; w3 = 0 }
+none = record { words = replicate 4 0 }
 
--- word q
+-- word q, of four
 unfoldable pub word_of : Seen → ℕ → ℕ
-word_of z q = get_or (z.w0 ∷ z.w1 ∷ z.w2 ∷ z.w3 ∷ []) q 0
+word_of z q = get_or (take 4 z.words) q 0
 
 -- digit k of a word
 unfoldable pub digit : ℕ → ℕ → ℕ
@@ -27,7 +27,7 @@ bit_of e q = cond (eqb (e / 64) q) (2 ^ (e % 64)) 0
 
 -- e in the set
 unfoldable pub with : Seen → ℕ → Seen
-with z e = record { w0 = bit_or z.w0 (bit_of e 0); w1 = bit_or z.w1 (bit_of e 1); w2 = bit_or z.w2 (bit_of e 2); w3 = bit_or z.w3 (bit_of e 3) }
+with z e = record { words = map (λ q. bit_or (word_of z q) (bit_of e q)) (0 ∷ 1 ∷ 2 ∷ 3 ∷ []) }
 
 -- how often c is in the set: once or not at all
 unfoldable pub times : Seen → ℕ → ℕ
@@ -38,9 +38,9 @@ abbrev pub Holds : Seen → (ℕ → ℕ) → Type 0
 Holds z f = (c : ℕ) → times z c ≡ f c
 
 -- a set that holds what f counts, or that f counts some number twice
-unfoldable pub Marked : Marks → (ℕ → ℕ) → Type 0
-Marked (M.Apart z) f = Holds z f
-Marked M.Twice f = (c : ℕ) × (2 ≤ f c)
+unfoldable pub Marked : Option Seen → (ℕ → ℕ) → Type 0
+Marked (Some z) f = Holds z f
+Marked None f = (c : ℕ) × (2 ≤ f c)
 
 -- ---- digits
 
@@ -101,7 +101,7 @@ bit_here : (e q : ℕ) → e / 64 ≡ q → 2 ^ (e % 64) ≡ bit_of e q
 unfolding bit_of
 bit_here e q h = sym (ap (λ b. cond b (2 ^ (e % 64)) 0) (eq-eqb (e / 64) q h))
 
-pub bit_away : (e q : ℕ) → e / 64 ≢ q → 0 ≡ bit_of e q
+bit_away : (e q : ℕ) → e / 64 ≢ q → 0 ≡ bit_of e q
 unfolding bit_of
 bit_away e q h = sym (ap (λ b. cond b (2 ^ (e % 64)) 0) (ne_eqb (e / 64) q h))
 
@@ -119,7 +119,9 @@ word_with z e zero h = refl
 word_with z e (suc zero) h = refl
 word_with z e (suc (suc zero)) h = refl
 word_with z e (suc (suc (suc zero))) h = refl
-word_with z e (suc (suc (suc (suc q)))) h = bit_away e (suc (suc (suc (suc q)))) (λ w. omega arith)
+word_with z e (suc (suc (suc (suc q)))) h =
+    let far = get_or_past (take 4 z.words) (suc (suc (suc (suc q)))) 0 (omega (arith, length-take 4 z.words)) in
+    rw (far, or_zero_l (bit_of e (suc (suc (suc (suc q)))))) (bit_away e (suc (suc (suc (suc q)))) (λ w. omega arith))
 
 digit-bit : (e c : ℕ) → digit (bit_of e (c / 64)) (c % 64) ≡ is c e
 digit-bit e c = go (same? (e / 64) (c / 64)) (same? (c % 64) (e % 64))
@@ -136,20 +138,39 @@ digit-bit e c = go (same? (e / 64) (c / 64)) (same? (c % 64) (e % 64))
 
 -- ---- what the code computes
 
-pub word_at : (z : Seen) (e k : ℕ) → e / 64 ≡ k → word_of z k ≡ word_of z (e / 64)
-word_at z e k h = ap (word_of z) (sym h)
+pub word_at : (z : Seen) (e : ℕ) → e < 256 → get_or z.words (e / 64) 0 ≡ word_of z (e / 64)
+unfolding word_of
+word_at z e h = sym (get_or-take 4 z.words (e / 64) 0 (omega arith))
 
 pub has_is : (z : Seen) (e : ℕ) {w : ℕ} → w ≡ word_of z (e / 64) → eqb (bit_and (w / 2 ^ (e % 64)) 1) 1 ≡ eqb (times z e) 1
 unfolding times digit
 has_is z e {w} h = ap (λ x. eqb x 1) (and_mask (w / 2 ^ (e % 64)) 1 ∙ ap (λ x. x / 2 ^ (e % 64) % 2) h)
 
-pub bit_is : (e q : ℕ) → e / 64 ≡ q → (1 * 2 ^ (e % 64)) % 2 ^ 64 ≡ bit_of e q
+bit_is : (e q : ℕ) → e / 64 ≡ q → (1 * 2 ^ (e % 64)) % 2 ^ 64 ≡ bit_of e q
 bit_is e q h = shl_exact {a = 1} 1 (e % 64) 64 (lit< tt) (omega arith) ∙ one-mul (2 ^ (e % 64)) ∙ bit_here e q h
 
-pub with-is : (z : Seen) (e : ℕ) {a b c d : ℕ} → a ≡ bit_of e 0 → b ≡ bit_of e 1 → c ≡ bit_of e 2 → d ≡ bit_of e 3
-    → record { w0 = bit_or z.w0 a; w1 = bit_or z.w1 b; w2 = bit_or z.w2 c; w3 = bit_or z.w3 d } ≡ with z e
+-- a word that e is not in stays
+word_stays : (z : Seen) (e q : ℕ) → q < 4 → e / 64 ≢ q → get_or z.words q 0 ≡ bit_or (word_of z q) (bit_of e q)
+unfolding word_of
+word_stays z e q l h = rw (← bit_away e q h, or_zero_r (word_of z q)) (sym (get_or-take 4 z.words q 0 l))
+
+by_word : (z : Seen) (e : ℕ) (l : List ℕ) → length l ≡ 4 → ((q : ℕ) → q < 4 → get_or l q 0 ≡ bit_or (word_of z q) (bit_of e q)) → record { words = l } ≡ with z e
 unfolding with
-with-is z e p q r s = rw (p, q, r, s)
+by_word z e (a ∷ b ∷ c ∷ d ∷ []) n h = rw (h 0 (lit< tt), h 1 (lit< tt), h 2 (lit< tt), h 3 (lit< tt))
+by_word z e _ n h = absurd (omega arith)
+
+pub add_new : (z : Seen) (e : ℕ) → length z.words ≡ 4 → e < 256
+    → record { words = set z.words (e / 64) (bit_or (get_or z.words (e / 64) 0) (1 * 2 ^ (e % 64) % 2 ^ 64)) } ≡ with z e
+unfolding word_of
+add_new z e n h = by_word z e _ (length-set z.words (e / 64) _ ∙ n) (λ q l. go q l (same? q (e / 64)))
+  where
+    go : (q : ℕ) → q < 4 → (q ≡ e / 64) ⊎ (q ≢ e / 64)
+        → get_or (set z.words (e / 64) (bit_or (get_or z.words (e / 64) 0) (1 * 2 ^ (e % 64) % 2 ^ 64))) q 0 ≡ bit_or (word_of z q) (bit_of e q)
+    go q l (inl w) = rw (w, get_or-set_same z.words (e / 64) _ 0 (omega arith), word_at z e h, bit_is e (e / 64) refl)
+    go q l (inr w) = get_or-set_other z.words (e / 64) q _ 0 w ∙ word_stays z e q l (λ v. w (sym v))
+
+pub add_none : (z : Seen) (e : ℕ) → length z.words ≡ 4 → 256 ≤ e → record { words = z.words } ≡ with z e
+add_none z e n h = by_word z e z.words n (λ q l. word_stays z e q l (λ v. omega arith))
 
 -- ---- the set
 
@@ -187,10 +208,10 @@ with-new z e h new c = go (same? c e)
         omega arith
     go (inr w) = let a = times-with z e c h in let b = is_other c e w in omega arith
 
-pub marked_apart : (f : ℕ → ℕ) {r : Marks} {z : Seen} → Marked r f → r ≡ M.Apart z → Holds z f
+pub marked_apart : (f : ℕ → ℕ) {r : Option Seen} {z : Seen} → Marked r f → r ≡ Some z → Holds z f
 unfolding Marked
-marked_apart f {r} {z} m e = let a : Marked (M.Apart z) f = subst (λ r. Marked r f) e m in a
+marked_apart f {r} {z} m e = let a : Marked (Some z) f = subst (λ r. Marked r f) e m in a
 
-pub marked_twice : (f : ℕ → ℕ) {r : Marks} → Marked r f → r ≡ M.Twice → (c : ℕ) × (2 ≤ f c)
+pub marked_twice : (f : ℕ → ℕ) {r : Option Seen} → Marked r f → r ≡ None → (c : ℕ) × (2 ≤ f c)
 unfolding Marked
-marked_twice f m e = let a : Marked M.Twice f = subst (λ r. Marked r f) e m in a
+marked_twice f m e = let a : Marked None f = subst (λ r. Marked r f) e m in a

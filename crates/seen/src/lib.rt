@@ -2,74 +2,49 @@
 #![tactic(auto)]
 
 ghost use Rattle.std.specs.Prelude.{◌≡◌, ◌/◌, ◌<◌, eqb};
-ghost use Rattle.seen.specs.Sets.{none, word_of, bit_of, times, with};
+ghost use Rattle.seen.specs.Sets.{none, word_of, times, with};
 
-#[derive(Clone, Copy)]
+#[derive(Clone, Copy, Default)]
 pub struct Seen {
-    pub w0: u64,
-    pub w1: u64,
-    pub w2: u64,
-    pub w3: u64,
+    words: [u64; 4],
 }
 
-// A set with one list's numbers more, or that one of them was there.
-#[derive(Clone, Copy)]
-pub enum Marks {
-    Apart(Seen),
-    Twice,
-}
-
-// No number.
-pub fn none() -> Seen
-    ensures { result ≡ none }
-{
-    Seen {
-        w0: 0,
-        w1: 0,
-        w2: 0,
-        w3: 0,
+impl Seen {
+    // No number.
+    #[tactic(auto, unfolding(crate::specs::Sets::none))]
+    pub fn new() -> Self
+        ensures { result ≡ none }
+    {
+        Self::default()
     }
-}
 
-// The word that e's bit is in.
-fn word(set: Seen, e: usize) -> u64
-    requires { e < 256 }
-    ensures { result ≡ word_of set (e / 64) }
-{
-    if e < 64 {
-        set.w0
-    } else if e < 128 {
-        set.w1
-    } else if e < 192 {
-        set.w2
-    } else {
-        set.w3
+    // The word that e's bit is in.
+    #[tactic(auto, using(crate::specs::Sets::word_at))]
+    fn word(self, e: usize) -> u64
+        requires { e < 256 }
+        ensures { result ≡ word_of self (e / 64) }
+    {
+        self.words[e / 64]
     }
-}
 
-// Whether e is in the set.
-pub fn has(set: Seen, e: usize) -> bool
-    requires { e < 256 }
-    ensures { result ≡ eqb (times set e) 1 }
-{
-    word(set, e) >> (e % 64) & 1 == 1
-}
+    // Whether e is in the set.
+    #[tactic(auto, using(crate::specs::Sets::has_is))]
+    pub fn has(self, e: usize) -> bool
+        requires { e < 256 }
+        ensures { result ≡ eqb (times self e) 1 }
+    {
+        self.word(e) >> (e % 64) & 1 == 1
+    }
 
-// What e adds to word q.
-fn bit(e: usize, q: usize) -> u64
-    ensures { result ≡ bit_of e q }
-{
-    if e / 64 == q { 1 << (e % 64) } else { 0 }
-}
-
-// The set with e in it.
-pub fn add(set: Seen, e: usize) -> Seen
-    ensures { result ≡ with set e }
-{
-    Seen {
-        w0: set.w0 | bit(e, 0),
-        w1: set.w1 | bit(e, 1),
-        w2: set.w2 | bit(e, 2),
-        w3: set.w3 | bit(e, 3),
+    // The set with e in it; numbers from 256 on are not kept.
+    #[tactic(auto, using(crate::specs::Sets::add_new, crate::specs::Sets::add_none))]
+    pub fn add(self, e: usize) -> Self
+        ensures { result ≡ with self e }
+    {
+        let mut words = self.words;
+        if e < 256 {
+            words[e / 64] |= 1 << (e % 64);
+        }
+        Seen { words }
     }
 }

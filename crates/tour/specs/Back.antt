@@ -1,6 +1,6 @@
 -- The walk is whole exactly where it comes to its end and has met as many nodes as there are.
 use Prim.Native.Nat.{ℕ, zero, suc, ◌+◌, ◌-◌, ◌<◌}
-use Rattle.std.specs.Prelude.{◌≡◌, Bool}
+use Rattle.std.specs.Prelude.{◌≡◌, Bool, Some, None}
 use Rattle.std.proofs.Math.Path.{refl, ap, subst}
 use Rattle.std.proofs.Common.{◌∙◌, eq-eqb, eqb-true}
 use Rattle.std.proofs.Math.Logic.{inl, inr}
@@ -14,22 +14,21 @@ use Rattle.tour.specs.Ending.{tally, one, Ends, tally_down, tally_up}
 use Rattle.tour.specs.Kept.{Kept, kept-one, kept-none, kept_both}
 use Rattle.tour.specs.declared.Step.{Step}
 use Rattle.tour.specs.declared.Step.TheVariants.{Down, Up, End, Astray}
-use Rattle.tour.specs.declared.Walked.TheVariants as W
 use Rattle.tour.specs.declared.depths.Depths.{Depths}
 
-pub astray_whole : {z : Depths} → W.Astray ≡ W.Whole z → ⊥
+pub astray_whole : {z : Depths} → None ≡ Some z → ⊥
 astray_whole e = let z : ◌≡◌ {A = ℕ} 0 1 = cc in omega arith
 
-whole_same : {y z : Depths} → W.Whole y ≡ W.Whole z → y ≡ z
+whole_same : {y z : Depths} → Some y ≡ Some z → y ≡ z
 whole_same e = cc
 
 module _ (t : Tree) where
   -- at the end n nodes are met, which are all
-  back_whole : (n : ℕ) (z y : Depths) → back_of t n z ≡ W.Whole y → (n ≡ length t.nodes) × (z ≡ y)
+  back_whole : (n : ℕ) (z y : Depths) → back_of t n z ≡ Some y → (n ≡ length t.nodes) × (z ≡ y)
   unfolding back_of
   back_whole n z y e = go (eqb n (length t.nodes)) refl e
     where
-      go : (b : Bool) → eqb n (length t.nodes) ≡ b → cond b (W.Whole z) W.Astray ≡ W.Whole y → (n ≡ length t.nodes) × (z ≡ y)
+      go : (b : Bool) → eqb n (length t.nodes) ≡ b → cond b (Some z) None ≡ Some y → (n ≡ length t.nodes) × (z ≡ y)
       go true f g = (eqb-true n (length t.nodes) f, whole_same g)
       go false f g = absurd (astray_whole g)
 
@@ -41,14 +40,14 @@ module _ (t : Tree) where
     pub all : n + tally t one m i k d ≡ length t.nodes
     pub kept : Kept t z y (λ v. tally t v m i k d)
 
-  pub whole_came : (f i k d n : ℕ) (z y : Depths) → walk_from t f i k d n z ≡ W.Whole y → Came f i k d n z y
+  pub whole_came : (f i k d n : ℕ) (z y : Depths) → walk_from t f i k d n z ≡ Some y → Came f i k d n z y
   unfolding walk_from onward
   whole_came zero i k d n z y e = absurd (astray_whole e)
   whole_came (suc f) i k d n z y e = go (step_of t i k) refl e (λ c. whole_came f c 0 (suc d) (suc n) (meeting t c (suc d) z) y) (λ p j. whole_came f p j (d - 1) n z y)
     where
-      go : (x : Step) → step_of t i k ≡ x → onward t (walk_from t f) x d n z ≡ W.Whole y
-          → ((c : ℕ) → walk_from t f c 0 (suc d) (suc n) (meeting t c (suc d) z) ≡ W.Whole y → Came f c 0 (suc d) (suc n) (meeting t c (suc d) z) y)
-          → ((p j : ℕ) → walk_from t f p j (d - 1) n z ≡ W.Whole y → Came f p j (d - 1) n z y) → Came (suc f) i k d n z y
+      go : (x : Step) → step_of t i k ≡ x → onward t (walk_from t f) x d n z ≡ Some y
+          → ((c : ℕ) → walk_from t f c 0 (suc d) (suc n) (meeting t c (suc d) z) ≡ Some y → Came f c 0 (suc d) (suc n) (meeting t c (suc d) z) y)
+          → ((p j : ℕ) → walk_from t f p j (d - 1) n z ≡ Some y → Came f p j (d - 1) n z y) → Came (suc f) i k d n z y
       go (Down c) e h down up =
           let on = down c h in record {
             m = suc on.m;
@@ -78,7 +77,7 @@ module _ (t : Tree) where
       go Astray e h down up = absurd (astray_whole h)
 
   pub ends_whole : (m f i k d n : ℕ) (z : Depths) → m < f → Ends t m i k → n + tally t one m i k d ≡ length t.nodes
-      → (y : Depths) × (walk_from t f i k d n z ≡ W.Whole y)
+      → (y : Depths) × (walk_from t f i k d n z ≡ Some y)
   unfolding walk_from onward back_of
   ends_whole m zero i k d n z l g h = absurd (omega arith)
   ends_whole zero (suc f) i k d n z l g h =

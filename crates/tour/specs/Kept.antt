@@ -1,7 +1,7 @@
 -- What the walk keeps of the nodes that it meets: the depths of leaves, inner nodes and forks, and the deepest.
 use Rattle.std.specs.Prelude.{ℕ, ◌+◌, ◌≤◌, ◌<◌, min, max, ◌⊎◌, ◌≢◌, Bool, cond, not, ltb, length}
 use Rattle.std.proofs.Math.Path.{◌≡◌, refl}
-use Rattle.std.proofs.Common.{ap, ◌∙◌, arith, lt-ltb, le-ltb}
+use Rattle.std.proofs.Common.{ap, ◌∙◌, arith}
 use Rattle.std.proofs.Math.Logic.{inl, inr}
 use Rattle.std.proofs.Math.Bool.{true, false}
 use Rattle.rules.specs.Tree.{Tree, node_at}
@@ -9,7 +9,7 @@ use Rattle.counting.specs.Count.{same?, lt?, is, is_same, is_other}
 use Rattle.seen.specs.declared.Seen.{Seen}
 use Rattle.seen.specs.Sets.{times, times-few, with, with_low}
 use Rattle.tour.specs.Sums.{at_depth, leaf_of, inner_of, fork_of, any_of}
-use Rattle.tour.specs.Walking.{put_in, is_fork, deeper, met, meeting}
+use Rattle.tour.specs.Walking.{put_in, is_fork, met, meeting}
 use Rattle.tour.specs.Even.{at_same, at_other}
 use Rattle.tour.specs.declared.depths.Depths.{Depths}
 
@@ -25,14 +25,6 @@ pub record Kept (t : Tree) (z y : Depths) (w : (ℕ → ℕ → ℕ) → ℕ) : 
   pub least : z.deepest ≤ y.deepest
   pub none : (e : ℕ) → y.deepest < e → w (at_depth any_of e) ≡ 0
   pub some : (y.deepest ≡ z.deepest) ⊎ (0 < w (at_depth any_of y.deepest))
-
-deeper-max : (a b : ℕ) → deeper a b ≡ max a b
-unfolding deeper
-deeper-max a b = go (lt? a b)
-  where
-    go : (a < b) ⊎ (b ≤ a) → cond (ltb a b) b a ≡ max a b
-    go (inl q) = rw (lt-ltb a b q) (omega arith)
-    go (inr q) = rw (le-ltb a b q) (omega arith)
 
 -- a set with d in it or not
 set_more : (z : Seen) (w : ℕ → ℕ) (d i : ℕ) (b : Bool) → w i ≡ cond b 1 0 → More z (put_in b d z) (λ e. at_depth w e d i)
@@ -57,8 +49,8 @@ module _ (t : Tree) where
     inner = set_more z.inner (inner_of t) d i (not (node_at t i).leaf) (unfold inner_of in turned (node_at t i).leaf);
     forks = set_more z.forks (fork_of t) d i (cond (node_at t i).leaf false (ltb 1 (length (node_at t i).list)))
         (unfold fork_of in fork (node_at t i).leaf (ltb 1 (length (node_at t i).list)));
-    least = (let a = deeper-max z.deepest d in omega arith);
-    none = (λ e q. at_other any_of e d i (λ w. let a = deeper-max z.deepest d in omega arith));
+    least = omega arith;
+    none = λ e q. at_other any_of e d i (λ w. omega arith);
     some = deep (lt? z.deepest d);
   }
     where
@@ -70,13 +62,12 @@ module _ (t : Tree) where
       fork true c = refl
       fork false c = refl
 
-      deep : (z.deepest < d) ⊎ (d ≤ z.deepest) → (deeper z.deepest d ≡ z.deepest) ⊎ (0 < at_depth any_of (deeper z.deepest d) d i)
+      deep : (z.deepest < d) ⊎ (d ≤ z.deepest) → (max z.deepest d ≡ z.deepest) ⊎ (0 < at_depth any_of (max z.deepest d) d i)
       deep (inl q) =
-          let a = deeper-max z.deepest d in
-          let b = at_same any_of (deeper z.deepest d) d i (omega arith) in
+          let b = at_same any_of (max z.deepest d) d i (omega arith) in
           let c : any_of i ≡ 1 = unfold any_of in refl in
           inr (omega arith)
-      deep (inr q) = let a = deeper-max z.deepest d in inl (omega arith)
+      deep (inr q) = inl (omega arith)
 
   -- none
   pub kept-none : (z : Depths) (w : (ℕ → ℕ → ℕ) → ℕ) → ((v : ℕ → ℕ → ℕ) → w v ≡ 0) → Kept t z z w

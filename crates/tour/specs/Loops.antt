@@ -1,6 +1,6 @@
 -- What the code of the walk knows of the node that it is at.
 use Prim.Native.Nat.{ℕ, zero, suc, ◌+◌, ◌-◌, ◌*◌, ◌≤◌, ◌<◌}
-use Rattle.std.specs.Prelude.{◌≡◌, ◌≢◌, true, false, cond, ltb, Float, get_or, drop, None, Some}
+use Rattle.std.specs.Prelude.{◌≡◌, ◌≢◌, true, false, cond, ltb, Float, get_or, drop, None, Some, Option}
 use Rattle.std.proofs.Math.Path.{sym, ap, subst}
 use Rattle.std.proofs.Common.{◌∙◌, eq-eqb, ne_eqb, drop_of_length-le}
 use mathlib.Core.List.{List, []}
@@ -24,8 +24,6 @@ use Rattle.tour.specs.Steps.{step_in, step-done, step_down, step_up, kids_list}
 use Rattle.tour.specs.Whole.{down_in}
 use Rattle.tour.specs.declared.Step.{Step}
 use Rattle.tour.specs.declared.Step.TheVariants.{Down, Up, End, Astray}
-use Rattle.tour.specs.declared.Walked.{Walked}
-use Rattle.tour.specs.declared.Walked.TheVariants as W
 use Rattle.tour.specs.declared.depths.Depths.{Depths}
 
 -- its parent, where it has one, is a node
@@ -127,15 +125,15 @@ module _ (t : Tree) where
     unfolding onward
     go_up e ei ek ed en ez = rw (ei, ek, ed, en, ez) (ap (λ x. onward t (walk_from t (left - 1)) x d n z) (sym e) ∙ one_on)
 
-    pub go_end : {x : Walked} → r ≡ End → x ≡ back_of t n z → x ≡ walk_of t
+    pub go_end : {x : Option Depths} → r ≡ End → x ≡ back_of t n z → x ≡ walk_of t
     unfolding onward
     go_end e h = h ∙ ap (λ x. onward t (walk_from t (left - 1)) x d n z) (sym e) ∙ one_on
 
-    pub go_astray : r ≡ Astray → W.Astray ≡ walk_of t
+    pub go_astray : r ≡ Astray → None ≡ walk_of t
     unfolding onward
     go_astray e = ap (λ x. onward t (walk_from t (left - 1)) x d n z) (sym e) ∙ one_on
 
-  pub go_out : (left i k d n : ℕ) (z : Depths) → left ≤ 0 → Going left i k d n z → W.Astray ≡ walk_of t
+  pub go_out : (left i k d n : ℕ) (z : Depths) → left ≤ 0 → Going left i k d n z → None ≡ walk_of t
   unfolding walk_from
   go_out left i k d n z h g = let e : 0 ≡ left = omega arith in ap (λ f. walk_from t f i k d n z) e ∙ g
 

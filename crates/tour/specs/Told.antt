@@ -1,6 +1,6 @@
 -- Conditions 4 and 6 as the walk tells them are document 01's.
 use Prim.Native.Nat.{ℕ, zero, suc, ◌+◌, ◌*◌, ◌≤◌, ◌<◌, min}
-use Rattle.std.specs.Prelude.{◌≡◌, ◌⊎◌, ◌&&◌, T, ltb, eqb}
+use Rattle.std.specs.Prelude.{◌≡◌, ◌⊎◌, ◌&&◌, T, ltb, eqb, Option, Some, None}
 use Rattle.std.proofs.Math.Path.{refl, subst}
 use Rattle.std.proofs.Common.{sym, ap, ap₂, ◌∙◌, inl, inr, eq-eqb, ne_eqb, lt-ltb, le-ltb}
 use Rattle.std.proofs.Math.Bool.{Bool}
@@ -24,14 +24,12 @@ use Rattle.tour.specs.Kept.{More, Kept, kept-one, kept_both}
 use Rattle.tour.specs.Back.{Came, whole_came, ends_whole}
 use Rattle.tour.specs.Even.{deep_at, even_at}
 use Rattle.tour.specs.Shallow.{level-is}
-use Rattle.tour.specs.declared.Walked.{Walked}
-use Rattle.tour.specs.declared.Walked.TheVariants as W
 use Rattle.tour.specs.declared.depths.Depths.{Depths}
 
-whole-some : (r : Walked) → T (whole r) → (y : Depths) × (r ≡ W.Whole y)
+whole-some : (r : Option Depths) → T (whole r) → (y : Depths) × (r ≡ Some y)
 unfolding whole
-whole-some (W.Whole y) h = (y, refl)
-whole-some W.Astray h = absurd h
+whole-some (Some y) h = (y, refl)
+whole-some None h = absurd h
 
 every_alike : (f g : ℕ → Bool) (n j : ℕ) → ((k : ℕ) → k < j + n → f k ≡ g k) → every f (up_from n j) ≡ every g (up_from n j)
 unfolding every up_from
@@ -50,11 +48,11 @@ module _ (s : Settings) (t : Tree) (h2 : T (rooted t)) (h3 : T (every (list_fits
   abbrev lent : Bool
   lent = once_each (length t.entries) (leaf_lists t.nodes)
 
-  came : (y : Depths) → walk_of t ≡ W.Whole y → Came t (2 * length t.nodes) t.root 0 0 1 (meeting t t.root 0 no_depths) y
+  came : (y : Depths) → walk_of t ≡ Some y → Came t (2 * length t.nodes) t.root 0 0 1 (meeting t t.root 0 no_depths) y
   unfolding walk_of
   came y e = whole_came t (2 * length t.nodes) t.root 0 0 1 (meeting t t.root 0 no_depths) y e
 
-  walked : T (once_each (length t.nodes) (concat (levels t))) → T (every (own_list t) (up_from (length t.nodes) 0)) → (y : Depths) × (walk_of t ≡ W.Whole y)
+  walked : T (once_each (length t.nodes) (concat (levels t))) → T (every (own_list t) (up_from (length t.nodes) 0)) → (y : Depths) × (walk_of t ≡ Some y)
   unfolding walk_of
   walked once own =
       let (m, g, l, e) = comes_back s t h2 h3 once own in
@@ -89,7 +87,7 @@ module _ (s : Settings) (t : Tree) (h2 : T (rooted t)) (h3 : T (every (list_fits
 
   -- ---- the depths kept are those of the levels
 
-  module _ (y : Depths) (e : walk_of t ≡ W.Whole y) where
+  module _ (y : Depths) (e : walk_of t ≡ Some y) where
     kept : Kept t no_depths y (λ v. deep_sum v 0 (levels t))
     kept =
         let c = came y e in

@@ -1,6 +1,6 @@
 -- One walk from the root along the links, as code takes it: into each node of a list that names the list's node as its parent, on to the
 -- next of the list, and up when the list is done. It counts the nodes that it meets and keeps the depths of leaves, inner nodes and forks.
-use Rattle.std.specs.Prelude.{ℕ, zero, suc, ◌-◌, ◌*◌, Bool, true, false, cond, ◌&&◌, ◌||◌, not, List, [], ◌∷◌, ltb, eqb, length, get_or, Option, None, Some}
+use Rattle.std.specs.Prelude.{ℕ, zero, suc, ◌-◌, ◌*◌, Bool, true, false, cond, ◌&&◌, ◌||◌, not, List, [], ◌∷◌, ltb, eqb, length, get_or, Option, None, Some, max}
 use Rattle.rules.specs.Lists.{every, up_from}
 use Rattle.rules.specs.Tree.{Tree, node_at}
 use Rattle.rules.specs.Check.{names}
@@ -9,8 +9,6 @@ use Rattle.seen.specs.Sets as S
 use Rattle.tour.specs.Sums.{kids}
 use Rattle.tour.specs.declared.Step.{Step}
 use Rattle.tour.specs.declared.Step.TheVariants.{Down, Up, End, Astray}
-use Rattle.tour.specs.declared.Walked.{Walked}
-use Rattle.tour.specs.declared.Walked.TheVariants as W
 use Rattle.tour.specs.declared.depths.Depths.{Depths}
 
 -- ---- the depths of the nodes met
@@ -26,16 +24,13 @@ put_in b d z = cond b (S.with z d) z
 unfoldable pub is_fork : Bool → ℕ → Bool
 is_fork leaf len = cond leaf false (ltb 1 len)
 
-unfoldable pub deeper : ℕ → ℕ → ℕ
-deeper a b = cond (ltb a b) b a
-
 -- a node met at depth d: a leaf, or an inner node that lists so many
 unfoldable pub met : Bool → ℕ → ℕ → Depths → Depths
 met leaf len d z = record {
   leaves = put_in leaf d z.leaves;
   inner = put_in (not leaf) d z.inner;
   forks = put_in (is_fork leaf len) d z.forks;
-  deepest = deeper z.deepest d;
+  deepest = max z.deepest d;
 }
 
 unfoldable pub meeting : Tree → ℕ → ℕ → Depths → Depths
@@ -72,30 +67,30 @@ step_of t i k = cond (ltb k (length (kids t i))) (down_of t i (get_or (kids t i)
 -- ---- the walk
 
 -- back at the root with n nodes met
-unfoldable pub back_of : Tree → ℕ → Depths → Walked
-back_of t n z = cond (eqb n (length t.nodes)) (W.Whole z) W.Astray
+unfoldable pub back_of : Tree → ℕ → Depths → Option Depths
+back_of t n z = cond (eqb n (length t.nodes)) (Some z) None
 
 -- at node i with k of its list done, d deep, n nodes met: by its step, and on
-unfoldable pub onward : Tree → (ℕ → ℕ → ℕ → ℕ → Depths → Walked) → Step → ℕ → ℕ → Depths → Walked
+unfoldable pub onward : Tree → (ℕ → ℕ → ℕ → ℕ → Depths → Option Depths) → Step → ℕ → ℕ → Depths → Option Depths
 onward t on (Down c) d n z = on c 0 (suc d) (suc n) (meeting t c (suc d) z)
 onward t on (Up p j) d n z = on p j (d - 1) n z
 onward t on End d n z = back_of t n z
-onward t on Astray d n z = W.Astray
+onward t on Astray d n z = None
 
-unfoldable pub walk_from : Tree → ℕ → ℕ → ℕ → ℕ → ℕ → Depths → Walked
-walk_from t zero i k d n z = W.Astray
+unfoldable pub walk_from : Tree → ℕ → ℕ → ℕ → ℕ → ℕ → Depths → Option Depths
+walk_from t zero i k d n z = None
 walk_from t (suc f) i k d n z = onward t (walk_from t f) (step_of t i k) d n z
 
 -- from the root, in at most two steps a node
-unfoldable pub walk_of : Tree → Walked
+unfoldable pub walk_of : Tree → Option Depths
 walk_of t = walk_from t (2 * length t.nodes) t.root 0 0 1 (meeting t t.root 0 no_depths)
 
 -- condition 4, the nodes: it met every node and came back
-unfoldable pub whole : Walked → Bool
-whole (W.Whole z) = true
-whole W.Astray = false
+unfoldable pub whole : Option Depths → Bool
+whole (Some z) = true
+whole None = false
 
 -- condition 6, where it did
-unfoldable pub even : Walked → Bool
-even (W.Whole z) = levelled z
-even W.Astray = false
+unfoldable pub even : Option Depths → Bool
+even (Some z) = levelled z
+even None = false

@@ -25,25 +25,16 @@ pub enum Step {
     Astray,
 }
 
-// How a walk went: it met every node and came back, and these are the depths; or it met others, or some twice, or not all.
-#[derive(Clone, Copy)]
-pub enum Walked {
-    Whole(Depths),
-    Astray,
-}
-
 // The place after c in a list, or the list's length.
 fn place_after(list: &[u32], c: usize) -> usize
     ensures { result ≡ place_after c list.now }
 {
-    let mut k = 0;
-    while k < list.len() {
-        if list[k] as usize == c {
+    for (k, i) in list.iter().enumerate() {
+        if *i as usize == c {
             return k + 1;
         }
-        k += 1;
     }
-    k
+    list.len()
 }
 
 // Up from node i, whose list is done.
@@ -73,10 +64,7 @@ fn next(s: Settings, n: Counters, links: &[u32], i: usize, k: usize) -> Step
     requires { Links s n (length links.now) × ListsFit s n links.now × (i < n.nodes) × AnyFloats s n links.now (λ t. ParentIn t i) }
     ensures { AnyFloats s n links.now (λ t. result ≡ step_of t i k) }
 {
-    if links::is_leaf(s, n, links, i) {
-        return up(s, n, links, i);
-    }
-    if k >= links::list_len(s, n, links, i) {
+    if links::is_leaf(s, n, links, i) || k >= links::list_len(s, n, links, i) {
         return up(s, n, links, i);
     }
     down(s, n, links, i, links::list_at(s, n, links, i, k))
@@ -94,19 +82,16 @@ fn meet(s: Settings, n: Counters, links: &[u32], i: usize, d: usize, depths: Dep
     )
 }
 
-// A walk that has come back and met so many nodes.
-fn back(s: Settings, n: Counters, links: &[u32], met: usize, depths: Depths) -> Walked
+// The depths of a walk that has come back, where it met as many nodes as there are.
+fn back(s: Settings, n: Counters, links: &[u32], met: usize, depths: Depths) -> Option<Depths>
     ensures { AnyFloats s n links.now (λ t. result ≡ back_of t met depths) }
 {
-    if met == n.nodes {
-        Walked::Whole(depths)
-    } else {
-        Walked::Astray
-    }
+    if met == n.nodes { Some(depths) } else { None }
 }
 
-// The walk from the root, in at most twice as many steps as there are nodes.
-pub fn walk(s: Settings, n: Counters, links: &[u32]) -> Walked
+// The walk from the root, in at most twice as many steps as there are nodes: the depths, where it met every node and came back, or
+// None where it met others, or some twice, or not all.
+pub fn walk(s: Settings, n: Counters, links: &[u32]) -> Option<Depths>
     requires { Links s n (length links.now) × ListsFit s n links.now × AnyFloats s n links.now (λ t. rooted t ≡ true) }
     ensures { AnyFloats s n links.now (λ t. result ≡ walk_of t) }
 {
@@ -115,8 +100,7 @@ pub fn walk(s: Settings, n: Counters, links: &[u32]) -> Walked
     let mut d = 0;
     let mut met = 1;
     let mut depths = meet(s, n, links, at, 0, Depths::new());
-    let mut left = 2 * n.nodes;
-    while left > 0 {
+    for _ in 0..2 * n.nodes {
         match next(s, n, links, at, k) {
             Step::Down(c) => {
                 at = c;
@@ -134,10 +118,9 @@ pub fn walk(s: Settings, n: Counters, links: &[u32]) -> Walked
                 return back(s, n, links, met, depths);
             }
             Step::Astray => {
-                return Walked::Astray;
+                return None;
             }
         }
-        left -= 1;
     }
-    Walked::Astray
+    None
 }

@@ -1,5 +1,5 @@
 -- The tree check as code works it out, without a mark on any node: the same verdict as document 01's for every tree of binary64 floats.
-use Rattle.std.specs.Prelude.{ℕ, suc, ◌≤◌, ◌≡◌, Bool, cond, ◌&&◌, List, [], ◌∷◌, T, length}
+use Rattle.std.specs.Prelude.{ℕ, suc, ◌≤◌, ◌≡◌, Bool, cond, ◌&&◌, Option, None, List, [], ◌∷◌, T, length}
 use Rattle.std.proofs.Math.Path.{refl, sym}
 use Rattle.std.proofs.Common.{ap, ◌∙◌, arith}
 use Rattle.std.proofs.Math.Bool.{true, false}
@@ -13,16 +13,15 @@ use Rattle.rules.specs.declared.Verdict.TheVariants.{Fails}
 use Rattle.rules.specs.Lists.{every, concat, up_from}
 use Rattle.rules.specs.Tree.{Tree}
 use Rattle.rules.specs.Check.{sized, rooted, list_fits, levels, once_each, own_list, leaf_lists, linked, filled, level, weighed, merged_below, lowest, conditions, checked, Binary64}
-use Rattle.tour.specs.declared.Walked.{Walked}
-use Rattle.tour.specs.declared.Walked.TheVariants.{Astray}
+use Rattle.tour.specs.declared.depths.Depths.{Depths}
 use Rattle.tour.specs.Walking.{walk_of, whole, even}
 use Rattle.tour.specs.Told.{linked-is, level_walked}
 use Rattle.weights.specs.Adding.{summed}
 use Rattle.weights.specs.Weighed.{weighed-is}
 
 -- the walk, where the leaf lists have each entry once: condition 4 holds if it is whole
-unfoldable pub walked_once : Tree → Walked
-walked_once t = cond (once_each (length t.entries) (leaf_lists t.nodes)) (walk_of t) Astray
+unfoldable pub walked_once : Tree → Option Depths
+walked_once t = cond (once_each (length t.entries) (leaf_lists t.nodes)) (walk_of t) None
 
 -- the conditions in their order, as code tests them
 unfoldable pub tested : Settings → Tree → List Bool
@@ -52,14 +51,14 @@ module _ (s : Settings) (t : Tree) (h2 : T (rooted t)) (h3 : T (every (list_fits
       none true = refl
       none false = refl
 
-      go : (b : Bool) → (whole (walk_of t) && b) ≡ whole (cond b (walk_of t) Astray)
+      go : (b : Bool) → (whole (walk_of t) && b) ≡ whole (cond b (walk_of t) None)
       go true = right (whole (walk_of t))
       go false = none (whole (walk_of t)) ∙ (unfold whole in refl)
 
   level_once : length t.entries ≤ 256 → T (linked t) → T (filled t) → level t ≡ even (walked_once t)
   unfolding walked_once linked
   level_once few h4 h5 =
-      level_walked s t h2 h3 few h4 h5 ∙ sym (ap (λ b. even (cond b (walk_of t) Astray)) (is_true (once_each (length t.entries) (leaf_lists t.nodes))
+      level_walked s t h2 h3 few h4 h5 ∙ sym (ap (λ b. even (cond b (walk_of t) None)) (is_true (once_each (length t.entries) (leaf_lists t.nodes))
       (and_r (once_each (length t.nodes) (concat (levels t)) && every (own_list t) (up_from (length t.nodes) 0)) _ h4)))
 
 pub checked-is : (s : Settings) (t : Tree) → s.max_leaves ≤ 256 → Binary64 t → checked s t ≡ examined s t

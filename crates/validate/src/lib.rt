@@ -12,17 +12,18 @@ ghost use Rattle.validate.specs.Examined.{walked_once};
 
 use head::{Counters, Settings};
 use rules::Verdict;
-use tour::Walked;
+use tour::depths::Depths;
 
-// Condition 4: the walk, where it met every node once by the parent it names and came back, and every entry is in one leaf list, once.
-fn walk_once(s: Settings, n: Counters, links: &[u32]) -> Walked
+// Condition 4: the walk's depths, where it met every node once by the parent it names and came back, and every entry is in one leaf
+// list, once.
+fn walk_once(s: Settings, n: Counters, links: &[u32]) -> Option<Depths>
     requires { Links s n (length links.now) × ListsFit s n links.now × (n.entries ≤ 256) × AnyFloats s n links.now (λ t. rooted t ≡ true) }
     ensures { AnyFloats s n links.now (λ t. result ≡ walked_once t) }
 {
     if once::once_each(s, n, links) {
         tour::walk(s, n, links)
     } else {
-        Walked::Astray
+        None
     }
 }
 
@@ -40,7 +41,7 @@ pub fn validate(s: Settings, n: Counters, floats: &[f64], links: &[u32]) -> Verd
     if !lists::lists_fit(s, n, links) {
         return Verdict::Fails(3);
     }
-    let Walked::Whole(depths) = walk_once(s, n, links) else {
+    let Some(depths) = walk_once(s, n, links) else {
         return Verdict::Fails(4);
     };
     if !lists::filled(s, n, links) {

@@ -13,7 +13,7 @@ use Rattle.binary64.specs.Range.{Ranged, ranged}
 use Rattle.feature.specs.Summaries.{blank}
 use Rattle.head.specs.declared.Settings.{Settings}
 use Rattle.head.specs.declared.Counters.{Counters}
-use Rattle.rules.specs.Tree.{Tree, node_at, entry_at, child, row_count}
+use Rattle.rules.specs.Tree.{node_at, entry_at, row_count}
 use Rattle.rules.specs.Check.{known, total_of}
 use Rattle.rules.specs.Slices.{tree_of}
 use Rattle.arena.specs.Trees.{Floats, Links, ChildIn, count_nodes_lem, count_entries_lem}
@@ -22,10 +22,6 @@ use Rattle.laws.specs.Check.Passing.{entries_sum}
 use Rattle.lists.specs.Lent.{ListsFit, EntriesCount, holds, listed_in}
 use Rattle.lists.specs.Loops.{drop_at}
 use Rattle.counting.specs.Tests.{every-at}
-
--- the weight of what place k of node i's list names
-unfoldable pub weight_at : Tree → ℕ → ℕ → Float
-weight_at t i k = (child t (node_at t i).leaf (slice_index (node_at t i).list k)).weight
 
 -- what the sums of condition 7 lean on: room, and lists that name what is there
 pub record Weighable (s : Settings) (n : Counters) (fs : List Float) (ls : List ℕ) : Type 0 where

@@ -5,13 +5,12 @@ ghost use Rattle.std.specs.Prelude.{◌≡◌, ◌<◌, ◌≤◌, true, length}
 ghost use Rattle.std.specs.Float.Ieee.{to_unsigned};
 ghost use Rattle.binary64.specs.Counts.{is_count};
 ghost use Rattle.rules.specs.Lists.{every};
-ghost use Rattle.rules.specs.Tree.{node_at};
 ghost use Rattle.rules.specs.Check.{total_of};
 ghost use Rattle.rules.specs.Slices.{tree_of};
 ghost use Rattle.arena.specs.Trees.{AnyFloats, AnyLinks, Floats, Links};
 ghost use Rattle.weights.specs.Adding.{weight_listed, adds_up, nodes_add_up, weighs_nothing, summed};
 ghost use Rattle.lists.specs.Lent.{ListsFit, EntriesCount};
-ghost use Rattle.weights.specs.Weighable.{Weighable, weight_at};
+ghost use Rattle.weights.specs.Weighable.{Weighable};
 
 use arena::{children, entries, links, nodes};
 use head::{Counters, Head, Settings};
@@ -37,14 +36,7 @@ fn entries_count(s: Settings, n: Counters, floats: &[f64]) -> bool
     requires { Floats s n (length floats.now) }
     ensures { AnyLinks s n floats.now (λ t. result ≡ every (λ e. is_count e.weight) t.entries) }
 {
-    let mut e = 0;
-    while e < n.entries {
-        if !is_count(entries::weight(s, n, floats, e)) {
-            return false;
-        }
-        e += 1;
-    }
-    true
+    lists::every_below(n.entries, |e| is_count(entries::weight(s, n, floats, e)))
 }
 
 // The rows in all entries.
@@ -53,22 +45,10 @@ pub fn total(s: Settings, n: Counters, floats: &[f64]) -> u64
     ensures { AnyLinks s n floats.now (λ t. result ≡ total_of t.entries) }
 {
     let mut rows = 0;
-    let mut e = 0;
-    while e < n.entries {
+    for e in 0..n.entries {
         rows += rows_of(entries::weight(s, n, floats, e));
-        e += 1;
     }
     rows
-}
-
-// The weight of what place k of node i's list names.
-fn weight_at(s: Settings, n: Counters, floats: &[f64], links: &[u32], i: usize, k: usize) -> f64
-    requires { Weighable s n floats.now links.now × (i < n.nodes) × AnyFloats s n links.now (λ t. k < length (node_at t i).list) }
-    ensures { result ≡ weight_at (tree_of s n floats.now links.now) i k }
-{
-    let leaf = links::is_leaf(s, n, links, i);
-    let c = links::list_at(s, n, links, i, k);
-    children::weight(s, n, floats, leaf, c)
 }
 
 // What node i's list weighs, summed from the first to the last.
@@ -76,12 +56,10 @@ fn weight_listed(s: Settings, n: Counters, floats: &[f64], links: &[u32], i: usi
     requires { Weighable s n floats.now links.now × (i < n.nodes) }
     ensures { result ≡ weight_listed (tree_of s n floats.now links.now) i }
 {
-    let len = links::list_len(s, n, links, i);
+    let leaf = links::is_leaf(s, n, links, i);
     let mut sum = 0.0;
-    let mut k = 0;
-    while k < len {
-        sum = sum + weight_at(s, n, floats, links, i, k);
-        k += 1;
+    for c in links::list(s, n, links, i) {
+        sum = sum + children::weight(s, n, floats, leaf, *c as usize);
     }
     sum
 }
@@ -99,14 +77,7 @@ fn nodes_add_up(s: Settings, n: Counters, floats: &[f64], links: &[u32]) -> bool
     requires { Weighable s n floats.now links.now }
     ensures { result ≡ nodes_add_up (tree_of s n floats.now links.now) }
 {
-    let mut i = 0;
-    while i < n.nodes {
-        if !adds_up(s, n, floats, links, i) {
-            return false;
-        }
-        i += 1;
-    }
-    true
+    lists::every_below(n.nodes, |i| adds_up(s, n, floats, links, i))
 }
 
 // Whether the root weighs 0; −0.0 counts as 0.
@@ -122,14 +93,12 @@ pub fn summed(s: Settings, n: Counters, floats: &[f64], links: &[u32]) -> bool
     requires { Floats s n (length floats.now) × Links s n (length links.now) × ListsFit s n links.now × (n.root < n.nodes) }
     ensures { result ≡ summed (tree_of s n floats.now links.now) }
 {
-    if !entries_count(s, n, floats) {
-        return false;
-    }
-    if total(s, n, floats) > Head::MOST_ROWS {
+    if !entries_count(s, n, floats) || total(s, n, floats) > Head::MOST_ROWS {
         return false;
     }
     if n.entries == 0 {
-        return weighs_nothing(s, n, floats);
+        weighs_nothing(s, n, floats)
+    } else {
+        nodes_add_up(s, n, floats, links)
     }
-    nodes_add_up(s, n, floats, links)
 }

@@ -8,7 +8,7 @@ use Rattle.rules.specs.Slices.{tree_of}
 use Rattle.rules.specs.Tree.{Tree}
 use Rattle.rules.specs.Check.{rooted, merged_below, lowest, checked}
 use Rattle.arena.specs.Trees.{AnyFloats, Floats, Links}
-use Rattle.tour.specs.declared.Walked.TheVariants.{Whole}
+use Rattle.std.proofs.Common.{Some}
 use Rattle.tour.specs.Walking.{whole, even}
 use Prim.Native.Nat.{ℕ, suc, ◌≤◌, ◌<◌}
 use mathlib.Core.List.{[]}
@@ -37,7 +37,7 @@ start-2 c = start-1 c.before.before
 abbrev start-3 : tie.Else-not-lists_fit → tie.Start
 start-3 c = start-2 c.before.before
 
-abbrev start-4 : tie.In-Whole → tie.Start
+abbrev start-4 : tie.In-Some → tie.Start
 start-4 c = start-3 c.before.before
 
 abbrev start-5 : tie.Else-not-filled → tie.Start
@@ -70,10 +70,10 @@ unfolding tested
 met-3 c = holds 3 _ _ (met-2 c.before.before) (sym (c.lists_fit.ensures (start-3 c).args.floats.now) ∙ not-false _ c.if-not-lists_fit.false-raw)
 
 -- the walk that is whole
-walked : (c : tie.In-Whole) → walked_once (lent (start-4 c)) ≡ Whole c.in-Whole.depths
-walked c = sym (c.walk_once.ensures (start-4 c).args.floats.now) ∙ c.in-Whole.is
+walked : (c : tie.In-Some) → walked_once (lent (start-4 c)) ≡ Some c.in-Some.depths
+walked c = sym (c.walk_once.ensures (start-4 c).args.floats.now) ∙ c.in-Some.is
 
-met-4 : (c : tie.In-Whole) → Met 4 (start-4 c)
+met-4 : (c : tie.In-Some) → Met 4 (start-4 c)
 unfolding tested whole
 met-4 c = holds 4 _ _ (met-3 c.before.before) (ap whole (walked c))
 

@@ -80,10 +80,10 @@ unfolding beneath
 beneath_alone t i = append-none (node_at t i).list
 
 -- as a chain asks each
-pub all-leaves : (t : Tree) (l : List ℕ) → list_all (λ k. (node_at t k).leaf) l ≡ all_leaves t l
+pub all_leaves_lem : (t : Tree) (l : List ℕ) → list_all (λ k. (node_at t k).leaf) l ≡ all_leaves t l
 unfolding all_leaves
-all-leaves t [] = refl
-all-leaves t (k ∷ ks) = ap (λ b. (node_at t k).leaf && b) (all-leaves t ks)
+all_leaves_lem t [] = refl
+all_leaves_lem t (k ∷ ks) = ap (λ b. (node_at t k).leaf && b) (all_leaves_lem t ks)
 
 module _ (t : Tree) (l : List ℕ) (k : ℕ) where
   first : k < length l → drop k l ≡ get_or l k 0 ∷ drop (k + 1) l

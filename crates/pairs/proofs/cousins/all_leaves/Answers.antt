@@ -8,7 +8,7 @@ use Rattle.std.proofs.lemmas.Iterator.Adapters.{serves_from_places}
 use Rattle.rules.specs.Tree.{node_at}
 use Rattle.rules.specs.Slices.{tree_of}
 use Rattle.bounds.specs.Sure.{node_listed}
-use Rattle.pairs.specs.Groups.{all-leaves}
+use Rattle.pairs.specs.Groups.{all_leaves_lem}
 use Rattle.pairs.proofs.cousins.all_leaves.Goals as goal
 
 pub all-requires-clause-callable : goal.all-requires-clause-callable
@@ -23,4 +23,4 @@ pub returns : goal.returns
 returns c fs =
     let t = tree_of c.args.s c.args.n fs c.args.links.now in
     all_from_yields_List (λ k. (node_at t k).leaf) _ _ _ c.all.ensures.ran (YieldsList-from_slice c.args.list.now cc) (λ x b q k. search (rules, tests))
-    ∙ all-leaves t c.args.list.now
+    ∙ all_leaves_lem t c.args.list.now

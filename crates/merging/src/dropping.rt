@@ -95,8 +95,7 @@ fn keep_list(s: Settings, n: Counters, links: &mut [u32], numbers: &[u32], i: us
         return;
     }
     let new = kept(links::list(s, n, links, i), numbers);
-    let list = new.as_slice();
-    links::set_list(s, n, links, i, list, list.len());
+    links::set_list(s, n, links, i, new.as_slice());
 }
 
 // All leaves' lists by the new numbers.

@@ -1,6 +1,5 @@
 // Partners among the entries beneath some leaves: those under one node, or one leaf alone.
-ghost use Rattle.std.specs.Prelude.{◌≡◌, true, ◌++◌, ◌+◌, ◌≤◌, ◌<◌, length};
-ghost use Rattle.std.proofs.Math.Option.{none};
+ghost use Rattle.std.specs.Prelude.{◌≡◌, true, ◌++◌, ◌+◌, ◌≤◌, ◌<◌, length, None};
 ghost use Rattle.rules.specs.Slices.{tree_of};
 ghost use Rattle.rules.specs.Pairs.{cost_of, partner, partners, beneath};
 ghost use Rattle.arena.specs.Trees.{Floats, Links, ChildrenIn};
@@ -25,7 +24,7 @@ fn cheapest_beneath(
     requires floats { Floats s n (length floats.now) × Links s n (length links.now) × (i < n.entries) }
     requires leaves { Leaves n (tree_of s n floats.now links.now) leaves.now }
     ensures result_value { partner_of result
-        ≡ partner (cost_of s (tree_of s n floats.now links.now) i) i none
+        ≡ partner (cost_of s (tree_of s n floats.now links.now) i) i None
         (beneath (tree_of s n floats.now links.now) leaves.now) }
     ensures inside { Inside n.entries (partner_of result) }
 {

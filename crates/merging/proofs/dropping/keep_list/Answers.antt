@@ -1,5 +1,5 @@
 -- An inner node stays, and a leaf gets the rules' list.
-use Rattle.std.proofs.Common.{◌∙◌, ◌+◌, ◌≡◌, ◌≤◌, ap, arith, length, sym, take_all, true}
+use Rattle.std.proofs.Common.{◌∙◌, ◌+◌, ◌≡◌, ◌≤◌, ap, arith, length, sym, true}
 use mathlib.Core.List.{[], filter_map}
 use Rattle.head.specs.Sizes.{block_width, block_small}
 use Rattle.rules.specs.Tree.{node_at}
@@ -27,23 +27,22 @@ kept-new-requires c =
 pub set_list-requires : goal.set_list-requires
 set_list-requires c =
     let s = c.args.s in
-    let few : length c.as_slice-list.result.now + 2 ≤ block_width s =
+    let few : length c.as_slice.result.now + 2 ≤ block_width s =
     omega (
       arith,
-      ap length c.as_slice-list.ensures.value,
+      ap length c.as_slice.ensures.value,
       c.kept-new.ensures.upper_bound,
       ap length (c.list.ensures []),
       list_within s c.args.n [] c.args.links.now c.args.i c.requires.links.0 c.requires.links.2,
     ) in
-    (c.requires.links.0, c.requires.links.2, few, omega arith)
+    (c.requires.links.0, c.requires.links.2, few)
 
 pub returns : goal.returns
 returns c =
     let ns = c.args.numbers.now in
-    let list = c.as_slice-list.result.now in
     λ fs.
     let leaf : (node_at (tree_of c.args.s c.args.n fs c.args.links.now) c.args.i).leaf ≡ true = sym (c.is_leaf.ensures fs) ∙ c.if-not-is_leaf.false in
     c.set_list.ensures fs
     ∙ pruned-leaf _ _ _ _ leaf
-    (take_all (length list) list (omega arith) ∙ c.as_slice-list.ensures.value ∙ c.kept-new.ensures.list_value
+    (c.as_slice.ensures.value ∙ c.kept-new.ensures.list_value
     ∙ ap (filter_map (number_in ns)) (c.list.ensures fs) ∙ kept-numbers c.args.n _ ns _ c.requires.numbered (c.requires.any_floats fs leaf))

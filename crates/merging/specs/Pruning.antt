@@ -1,8 +1,8 @@
 -- Leaves' lists by the new numbers.
 use Prim.Native.Nat.{ℕ, zero, suc, ◌+◌, ◌-◌, ◌*◌, ◌≤◌, ◌<◌}
-use Rattle.std.specs.Prelude.{◌≡◌, Bool, true, false, cond, Float, length, set, take}
+use Rattle.std.specs.Prelude.{◌≡◌, Bool, true, false, cond, Float, length}
 use Rattle.std.proofs.Math.Path.{refl, sym, ap}
-use Rattle.std.proofs.Common.{ap₂, ◌∙◌, add-one, arith, drop_of_length-le, drop-cons, take-suc-set}
+use Rattle.std.proofs.Common.{ap₂, ◌∙◌, add-one, arith, drop_of_length-le, drop-cons}
 use mathlib.Core.List.{List, [], ◌∷◌, ◌++◌, map, filter_map, append_assoc}
 use Rattle.std.proofs.Math.Option.{Option, Option-elim, none, some}
 use Rattle.std.proofs.Math.ListN.{get_or, drop}
@@ -63,15 +63,13 @@ unfoldable pub plus_of : List ℕ → Option ℕ → List ℕ
 plus_of l none = l
 plus_of l (some i) = snoc l i
 
-pub plus_none : (new : List ℕ) (len w : ℕ) → w ≡ 0 → take len new ≡ plus_of (take len new) (number_of w)
+pub plus_none : (l : List ℕ) (w : ℕ) → w ≡ 0 → l ≡ plus_of l (number_of w)
 unfolding plus_of
-plus_none new len w e = ap (plus_of (take len new)) (sym (number_none w e))
+plus_none l w e = ap (plus_of l) (sym (number_none w e))
 
-pub plus_some : (new : List ℕ) (len w : ℕ) → ¬ (w ≡ 0) → len < length new
-    → take (len + 1) (set new len (w - 1)) ≡ plus_of (take len new) (number_of w)
+pub plus_some : (l : List ℕ) (w : ℕ) → ¬ (w ≡ 0) → l ++ (w - 1) ∷ [] ≡ plus_of l (number_of w)
 unfolding plus_of snoc
-plus_some new len w d h =
-    ap (λ k. take k (set new len (w - 1))) (add-one len) ∙ take-suc-set new len (w - 1) h ∙ ap (plus_of (take len new)) (sym (number_some w d))
+plus_some l w d = ap (plus_of l) (sym (number_some w d))
 
 module _ (f : ℕ → Option ℕ) (list : List ℕ) where
   pub kept_turn : (k : ℕ) (l m : List ℕ) → k < length list → m ≡ plus_of l (f (get_or list k 0))

@@ -1,5 +1,5 @@
 // The merged-away entries dropped, and the others numbered anew.
-ghost use Rattle.std.specs.Prelude.{◌≡◌, true, ℕ, ◌+◌, ◌*◌, ◌<◌, ◌≤◌, length, get_or, take};
+ghost use Rattle.std.specs.Prelude.{◌≡◌, true, ℕ, ◌+◌, ◌*◌, ◌<◌, ◌≤◌, length, get_or};
 ghost use mathlib.Core.List.{map, filter_map};
 ghost use Rattle.head.specs.Counting.{count_entries};
 ghost use Rattle.rules.specs.Lists.{keep, count_up};
@@ -8,11 +8,12 @@ ghost use Rattle.rules.specs.Rebuild.{pruned, dropped};
 ghost use Rattle.rules.specs.Slices.{tree_of};
 ghost use Rattle.arena.specs.Trees.{AnyFloats, FloatsTo, LinksTo, Floats, Links, ChildrenIn, on_node};
 ghost use Rattle.scratch.specs.Flags.{alive_in};
-ghost use Rattle.merging.specs.Numbering.{number_in, number_of, NumberedOne, Numbered};
+ghost use Rattle.merging.specs.Numbering.{number_in, NumberedOne, Numbered};
 ghost use Rattle.merging.specs.Moving.{move_entry};
-ghost use Rattle.merging.specs.Pruning.{plus_of, LeavesIn};
+ghost use Rattle.merging.specs.Pruning.{LeavesIn};
 
 use arena::{entries, links};
+use arrayvec::ArrayVec;
 use head::{Counters, Settings};
 
 // Place 3i + 2 of the numbers becomes entry i's new number and one more, or stays 0; says how many entries there are up to it.
@@ -35,10 +36,8 @@ fn number(numbers: &mut [u32], entries: usize) -> usize
     ensures numbered { Numbered (alive_in numbers.old entries) numbers.new entries }
 {
     let mut kept = 0;
-    let mut i = 0;
-    while i < entries {
+    for i in 0..entries {
         kept = number_one(numbers, i, kept);
-        i += 1;
     }
     kept
 }
@@ -64,47 +63,25 @@ fn keep_entries(s: Settings, n: Counters, floats: &mut [f64], numbers: &[u32])
     ensures { FloatsTo s n floats.old (count_entries (count_up (alive_in numbers.now n.entries)) n) floats.new
         (λ t. with_entries (keep (alive_in numbers.now n.entries) t.entries) t) }
 {
-    let mut i = 0;
-    while i < n.entries {
+    for i in 0..n.entries {
         keep_entry(s, n, floats, numbers, i);
-        i += 1;
     }
-}
-
-// The first `len` numbers of a list.
-#[derive(Clone, Copy)]
-struct Few {
-    list: [u32; 17],
-    len: usize,
-}
-
-// The number that a word stands for goes behind the first len, or none for 0; says how many there are.
-fn keep_number(new: &mut [u32], len: usize, word: u32) -> usize
-    requires { len < length new.old }
-    ensures { (take result new.new ≡ plus_of (take len new.old) (number_of word)) × (result ≤ len + 1) }
-{
-    if word == 0 {
-        return len;
-    }
-    new[len] = word - 1;
-    len + 1
 }
 
 // A leaf's list by the new numbers, without the merged-away ones.
-fn kept(list: &[u32], numbers: &[u32]) -> Few
+fn kept(list: &[u32], numbers: &[u32]) -> ArrayVec<u32, 17>
     requires { (length list.now ≤ 17) × ((k : ℕ) → k < length list.now → 3 * get_or list.now k 0 + 2 < length numbers.now) }
-    ensures list_value { take result.len result.list ≡ filter_map (number_in numbers.now) list.now }
-    ensures len_in_bounds { (result.len ≤ length list.now) × (length result.list ≡ 17) }
+    ensures list_value { result.items ≡ filter_map (number_in numbers.now) list.now }
+    ensures upper_bound { length result.items ≤ length list.now }
 {
-    let mut new = [0u32; 17];
-    let mut len = 0;
-    let mut k = 0;
-    while k < list.len() {
-        let word = numbers[3 * (list[k] as usize) + 2];
-        len = keep_number(&mut new, len, word);
-        k += 1;
+    let mut new = ArrayVec::new();
+    for &i in list {
+        let word = numbers[3 * (i as usize) + 2];
+        if word != 0 {
+            new.push(word - 1);
+        }
     }
-    Few { list: new, len }
+    new
 }
 
 // Node i's list by the new numbers, if it is a leaf.
@@ -117,9 +94,8 @@ fn keep_list(s: Settings, n: Counters, links: &mut [u32], numbers: &[u32], i: us
     if !links::is_leaf(s, n, links, i) {
         return;
     }
-    let few = kept(links::list(s, n, links, i), numbers);
-    let list = few.list;
-    links::set_list(s, n, links, i, &list[..few.len]);
+    let new = kept(links::list(s, n, links, i), numbers);
+    links::set_list(s, n, links, i, new.as_slice());
 }
 
 // All leaves' lists by the new numbers.
@@ -129,10 +105,8 @@ fn keep_lists(s: Settings, n: Counters, links: &mut [u32], numbers: &[u32])
     ensures { LinksTo s n links.old n links.new
         (λ t. with_nodes (map (pruned (alive_in numbers.now n.entries)) t.nodes) t) }
 {
-    let mut i = 0;
-    while i < n.nodes {
+    for i in 0..n.nodes {
         keep_list(s, n, links, numbers, i);
-        i += 1;
     }
 }
 

@@ -20,22 +20,18 @@ pub fn revive(numbers: &mut [u32], entries: usize)
     requires { 3 * entries ≤ length numbers.old }
     ensures { (alive_in numbers.new entries ≡ replicate entries true) × SamePairs numbers.old numbers.new }
 {
-    let mut i = 0;
-    while i < entries {
+    for i in 0..entries {
         numbers[3 * i + 2] = 1;
-        i += 1;
     }
 }
 
 // Whether entries one and two are both there.
+#[tactic(auto, unfolding(scratch::specs::Flags::alive_at, scratch::specs::Flags::word_at))]
 fn both_alive(numbers: &[u32], one: usize, two: usize) -> bool
     requires { (3 * one + 2 < length numbers.now) × (3 * two + 2 < length numbers.now) }
     ensures { result ≡ alive_at numbers.now one && alive_at numbers.now two }
 {
-    if numbers[3 * one + 2] == 0 {
-        return false;
-    }
-    numbers[3 * two + 2] != 0
+    numbers[3 * one + 2] != 0 && numbers[3 * two + 2] != 0
 }
 
 // The widest gap, with the one between entries one and two.
@@ -117,13 +113,11 @@ pub fn merge_pairs(
         count: 0,
         widest: 0.0,
     };
-    let mut k = 0;
-    while k < pairs {
+    for k in 0..pairs {
         if m.count == most {
-            return m;
+            break;
         }
         m = merge_pair(s, n, floats, numbers, k, m);
-        k += 1;
     }
     m
 }

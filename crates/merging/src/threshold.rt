@@ -3,15 +3,15 @@ ghost use Rattle.std.specs.Prelude.{◌≡◌};
 ghost use Rattle.rules.specs.Rebuild.{widened, grown_threshold};
 
 // The widest finite gap so far.
+#[tactic(auto, unfolding(rules::specs::Rebuild::widened))]
 pub fn widen(widest: f64, gap: f64) -> f64
     ensures { result ≡ widened widest gap }
 {
-    if binary64::is_finite(gap) {
-        if widest < gap {
-            return gap;
-        }
+    if binary64::is_finite(gap) && widest < gap {
+        gap
+    } else {
+        widest
     }
-    widest
 }
 
 // The widest gap times 1 + 2^−50, at most the largest float, if that is larger.

@@ -8,6 +8,7 @@ use borrow.Author.Tests.{lt-ltb, le-ltb}
 use Rattle.std.proofs.Math.Dec.{ltb}
 use Rattle.std.proofs.Math.ListN.{get_or, drop}
 use Rattle.std.proofs.Math.Seq.{drop-cons}
+use Rattle.std.specs.List.{list_all}
 use Rattle.head.specs.declared.Settings.{Settings}
 use Rattle.head.specs.declared.Counters.{Counters}
 use Rattle.head.specs.Limits.{both}
@@ -15,7 +16,7 @@ use Rattle.rules.specs.declared.Pair.{Pair}
 use Rattle.rules.specs.Tree.{Tree, blank_node, node_at}
 use Rattle.rules.specs.Slices.{tree_of}
 use Rattle.rules.specs.Descent.{Best}
-use Rattle.arena.specs.Trees.{ChildrenIn}
+use Rattle.arena.specs.Trees.{ChildIn, ChildrenIn}
 use Rattle.laws.specs.ForCode.{Framed}
 use Rattle.bounds.specs.Sure.{node_listed}
 use Rattle.bounds.specs.Framed.{frame_children}
@@ -66,21 +67,26 @@ pub leaves_of : (s : Settings) (c : Counters) (fs : List Float) (ls l : List ℕ
 leaves_of s c fs ls l g h a =
     record { nodes = h; entries = λ k b. frame_children s c fs ls g (get_or l k 0) (node_listed c l h k b) true (leaf-at (tree_of s c fs ls) l k a b) }
 
+-- one leaf alone
+pub leaf_alone : (s : Settings) (c : Counters) (fs : List Float) (ls : List ℕ) (i : ℕ) → Framed (tree_of s c fs ls) → i < c.nodes
+    → (node_at (tree_of s c fs ls) i).leaf ≡ true → Leaves c (tree_of s c fs ls) (i ∷ [])
+unfolding ChildrenIn ChildIn all_leaves
+leaf_alone s c fs ls i g h e =
+    leaves_of s c fs ls (i ∷ []) g (λ k b. let z : k ≡ 0 = omega arith in rw z h) (rw (e, all_leaves))
+
+pub beneath_alone : (t : Tree) (i : ℕ) → beneath t (i ∷ []) ≡ (node_at t i).list
+unfolding beneath
+beneath_alone t i = append-none (node_at t i).list
+
+-- as a chain asks each
+pub all_leaves_lem : (t : Tree) (l : List ℕ) → list_all (λ k. (node_at t k).leaf) l ≡ all_leaves t l
+unfolding all_leaves
+all_leaves_lem t [] = refl
+all_leaves_lem t (k ∷ ks) = ap (λ b. (node_at t k).leaf && b) (all_leaves_lem t ks)
+
 module _ (t : Tree) (l : List ℕ) (k : ℕ) where
   first : k < length l → drop k l ≡ get_or l k 0 ∷ drop (k + 1) l
   first h = drop-cons l k 0 h ∙ ap (λ m. get_or l k 0 ∷ drop m l) (sym (add-one k))
-
-  pub leaves_turn : k < length l → (node_at t (get_or l k 0)).leaf ≡ true → all_leaves t (drop k l) ≡ all_leaves t (drop (k + 1) l)
-  unfolding all_leaves
-  leaves_turn h e = ap (all_leaves t) (first h) ∙ ap (λ b. b && all_leaves t (drop (k + 1) l)) e
-
-  pub leaves_stop : k < length l → (node_at t (get_or l k 0)).leaf ≡ false → all_leaves t (drop k l) ≡ false
-  unfolding all_leaves
-  leaves_stop h e = ap (all_leaves t) (first h) ∙ ap (λ b. b && all_leaves t (drop (k + 1) l)) e
-
-  pub leaves_end : length l ≤ k → all_leaves t (drop k l) ≡ true
-  unfolding all_leaves
-  leaves_end h = ap (all_leaves t) (drop_of_length-le l {i = k} h)
 
   pub beneath_turn : k < length l → beneath t (drop k l) ≡ (node_at t (get_or l k 0)).list ++ beneath t (drop (k + 1) l)
   unfolding beneath

@@ -1,5 +1,5 @@
 -- The partner that an entry names, found along a list, and the pair that it makes.
-use Rattle.std.specs.Prelude.{ℕ, ◌+◌, ◌≤◌, ◌<◌, ◌≡◌, refl, Bool, true, false, cond, List, [], ◌∷◌, ◌++◌, ◌≢◌, eqb, Float, length, get_or, drop, Option, None, Some}
+use Rattle.std.specs.Prelude.{ℕ, ◌+◌, ◌≤◌, ◌<◌, ◌≡◌, refl, Bool, true, false, cond, List, [], ◌∷◌, ◌++◌, ◌≢◌, eqb, Float, length, get_or, drop, Option, None, Some, option_map}
 use Rattle.std.proofs.Math.Path.{sym, ap}
 use Rattle.std.proofs.Common.{◌∙◌, add-one, arith, eq-eqb, ne_eqb, drop_of_length-le, drop-cons}
 use Rattle.std.specs.Float.Ieee.{lt}
@@ -8,12 +8,10 @@ use Rattle.rules.specs.Descent.{Best, best, closer}
 use Rattle.rules.specs.Pairs.{cheaper, partner, pair_of}
 use Rattle.scratch.specs.Stored.{pairs_in, Put, put_more}
 use Rattle.pairs.specs.declared.partner.Partner.{Partner}
-use Rattle.pairs.specs.declared.partner.Partner.TheVariants.{Named, Alone}
 
 -- the code's partner as the rules have it
-unfoldable pub partner_of : Partner → Option Best
-partner_of (Named i c) = Some (best i c)
-partner_of Alone = None
+abbrev pub partner_of : Option Partner → Option Best
+partner_of = option_map (λ p. best p.number p.cost)
 
 -- a partner that is named is below n
 unfoldable pub Inside : ℕ → Option Best → Type 0
@@ -33,32 +31,6 @@ pub inside_more : (m n : ℕ) (o : Option Best) → Inside m o → m ≤ n → I
 unfolding Inside
 inside_more m n None h l = tt
 inside_more m n (Some (best i c)) h l = omega arith
-
-module _ (p : Partner) (j : ℕ) (c : Float) where
-  pub cheaper_first : p ≡ Alone → partner_of (Named j c) ≡ cheaper (partner_of p) j c
-  unfolding partner_of cheaper
-  cheaper_first e = rw (e, partner_of, cheaper)
-
-  pub cheaper_yes : (i : ℕ) (d : Float) → p ≡ Named i d → lt c d ≡ true → partner_of (Named j c) ≡ cheaper (partner_of p) j c
-  unfolding partner_of cheaper closer
-  cheaper_yes i d e h = rw (e, partner_of, cheaper, closer, h)
-
-  pub cheaper_no : (i : ℕ) (d : Float) → p ≡ Named i d → lt c d ≡ false → partner_of (Named i d) ≡ cheaper (partner_of p) j c
-  unfolding partner_of cheaper closer
-  cheaper_no i d e h = rw (e, partner_of, cheaper, closer, h)
-
-  -- as the rules see it
-  pub partner_named : p ≡ Named j c → partner_of p ≡ Some (best j c)
-  unfolding partner_of
-  partner_named e = rw (e, partner_of)
-
-pub partner-alone : (p : Partner) → p ≡ Alone → partner_of p ≡ None
-unfolding partner_of
-partner-alone p e = rw (e, partner_of)
-
-pub named_inside : (n : ℕ) (o : Option Best) (i : ℕ) (c : Float) → o ≡ Some (best i c) → Inside n o → i < n
-unfolding Inside
-named_inside n o i c e h = rw e at h
 
 -- ---- along a list
 

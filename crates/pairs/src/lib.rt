@@ -2,6 +2,7 @@
 #![tactic(auto)]
 
 pub mod cousins;
+mod groups;
 pub mod partner;
 pub mod siblings;
 pub mod sorting;

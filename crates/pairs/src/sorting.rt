@@ -13,8 +13,7 @@ fn sort_in(costs: &mut [f64], numbers: &mut [u32], i: usize, count: usize)
         ≡ inserted_from (pair_at costs.old numbers.old i) i (pairs_in costs.old numbers.old count) }
 {
     let p = stored::pair(costs, numbers, i);
-    let mut at = i;
-    while at + 1 < count {
+    for at in i..count - 1 {
         let q = stored::pair(costs, numbers, at + 1);
         if q.cost < p.cost {
             stored::put(costs, numbers, at, q);
@@ -22,9 +21,8 @@ fn sort_in(costs: &mut [f64], numbers: &mut [u32], i: usize, count: usize)
             stored::put(costs, numbers, at, p);
             return;
         }
-        at += 1;
     }
-    stored::put(costs, numbers, at, p);
+    stored::put(costs, numbers, count - 1, p);
 }
 
 // The first `count` pairs, sorted.
@@ -32,9 +30,7 @@ pub fn sort(costs: &mut [f64], numbers: &mut [u32], count: usize)
     requires { Room count (length costs.old) (length numbers.old) }
     ensures { pairs_in costs.new numbers.new count ≡ sorted (pairs_in costs.old numbers.old count) }
 {
-    let mut i = count;
-    while i > 0 {
-        i -= 1;
+    for i in (0..count).rev() {
         sort_in(costs, numbers, i, count);
     }
 }

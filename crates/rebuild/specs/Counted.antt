@@ -1,8 +1,8 @@
 -- The counters that the merges and the rebuild leave.
-use Rattle.std.specs.Prelude.{ℕ, ◌+◌, ◌-◌, ◌/◌, ◌≤◌, ◌≡◌, Bool, true, false, ◌||◌, List, leb, ltb, Float}
+use Rattle.std.specs.Prelude.{ℕ, suc, ◌+◌, ◌-◌, ◌/◌, ◌≤◌, ◌≡◌, Bool, true, false, cond, ◌||◌, List, leb, ltb, min, Float}
+use borrow.Author.Tests.{ltb-true, ltb-false}
 use Rattle.std.proofs.Math.Path.{refl}
 use Rattle.std.proofs.Common.{ap, ◌∙◌, subst, arith}
-use Rattle.std.proofs.Math.Numerals.{add-one}
 use Rattle.head.specs.declared.Settings.{Settings}
 use Rattle.head.specs.declared.Counters.{Counters}
 use Rattle.head.specs.Counting.{count_running, with_merged, with_rebuilds}
@@ -22,15 +22,13 @@ merged_counts w n = count_running (merges_on w.count w.widest) n
 unfoldable pub counted_up : Counters → Counters
 counted_up n = count_running (λ r. with_rebuilds (one_more r.rebuilds) r) n
 
-module _ (n : Counters) where
-  pub counted_more : ltb n.running.rebuilds 0xffff_ffff_ffff_ffff ≡ true → count_running (with_rebuilds (n.running.rebuilds + 1)) n ≡ counted_up n
-  unfolding counted_up count_running one_more
-  counted_more e = rw (e, add-one n.running.rebuilds)
-
-  -- at its top value the count stays
-  pub counted_top : ltb n.running.rebuilds 0xffff_ffff_ffff_ffff ≡ false → n ≡ counted_up n
-  unfolding counted_up count_running one_more with_rebuilds
-  counted_top e = rw e
+pub one_more_lem : (r : ℕ) → r ≤ 0xffff_ffff_ffff_ffff → min (r + 1) 0xffff_ffff_ffff_ffff ≡ one_more r
+unfolding one_more
+one_more_lem r h = go (ltb r 0xffff_ffff_ffff_ffff) refl
+  where
+    go : (b : Bool) → ltb r 0xffff_ffff_ffff_ffff ≡ b → min (r + 1) 0xffff_ffff_ffff_ffff ≡ cond b (suc r) r
+    go true q = let l = ltb-true r 0xffff_ffff_ffff_ffff q in omega arith
+    go false q = let l = ltb-false r 0xffff_ffff_ffff_ffff q in omega arith
 
 pub target_is : (m : ℕ) → 1 ≤ m → target m ≡ m - m / 10
 unfolding target

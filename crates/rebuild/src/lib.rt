@@ -6,7 +6,7 @@ ghost use Rattle.std.specs.Prelude.{◌≡◌, ◌||◌, ◌+◌, ◌-◌, ◌�
 ghost use Rattle.head.specs.Limits.{Sized};
 ghost use Rattle.head.specs.Sizes.{entry_cap};
 ghost use Rattle.rules.specs.Slices.{tree_of};
-ghost use Rattle.rules.specs.Rebuild.{target, dropped, rebalanced, compacted, rebuilt};
+ghost use Rattle.rules.specs.Rebuild.{target, dropped, rebalanced, compacted, one_more, rebuilt};
 ghost use Rattle.laws.specs.Rebuilding.Merge.{Every};
 ghost use Rattle.laws.specs.Rebuilding.Cousins.{FarPair};
 ghost use Rattle.arena.specs.Trees.{Floats, Links};
@@ -49,10 +49,7 @@ fn merged(n: Counters, w: Merges) -> Counters
 fn due(s: Settings, n: Counters, across: bool) -> bool
     ensures { result ≡ (across || leb s.max_leaves n.running.merged) }
 {
-    if across {
-        return true;
-    }
-    s.max_leaves <= n.running.merged
+    across || s.max_leaves <= n.running.merged
 }
 
 // The merged-away entries dropped, and all others placed again where it is due.
@@ -143,16 +140,19 @@ fn merge(
     merge_by(s, n, floats, links, scratch, numbers, far, true)
 }
 
-// The u64 rebuild count stops at its top value.
+// One rebuild more: the u64 count stops at its top value.
+fn one_more(rebuilds: u64) -> u64
+    ensures { result ≡ one_more rebuilds }
+{
+    rebuilds.saturating_add(1)
+}
+
+// The counters after the rebuild.
+#[tactic(auto, unfolding(crate::specs::Counted::counted_up, head::specs::Counting::count_running, head::specs::Counting::with_rebuilds))]
 fn counted(n: Counters) -> Counters
     ensures { result ≡ counted_up n }
 {
-    let r = n.running.rebuilds;
-    if r < 0xffff_ffff_ffff_ffff {
-        n.with_rebuilds(r + 1)
-    } else {
-        n
-    }
+    n.with_rebuilds(one_more(n.running.rebuilds))
 }
 
 // The whole rebuild.

@@ -1,15 +1,15 @@
 -- What the walk takes for granted of the links: with some floats they are those of a standing tree.
-use Prim.Native.Nat.{ℕ, zero, suc, ◌+◌, ◌-◌, ◌≤◌, ◌<◌}
-use Rattle.std.specs.Prelude.{◌≡◌, true, false, List, [], ◌∷◌, ◌⊎◌, ◌≢◌, length, get_or, drop, Float}
+use Prim.Native.Nat.{ℕ, zero, suc, ◌-◌, ◌≤◌, ◌<◌}
+use Rattle.std.specs.Prelude.{◌≡◌, true, false, List, [], ◌∷◌, ◌≢◌, length, get_or, Float}
 use Rattle.std.proofs.Math.Path.{refl, ap}
-use Rattle.std.proofs.Common.{sym, ◌∙◌, subst, inl, inr, add-one, drop_of_length-le, drop-cons}
+use Rattle.std.proofs.Common.{sym, subst}
 use native.Mathlib.Omega.{arith}
 use Rattle.head.specs.declared.Settings.{Settings}
 use Rattle.head.specs.declared.Counters.{Counters}
 use Rattle.rules.specs.Lists.{occurs}
 use Rattle.rules.specs.Tree.{Tree, node_at}
 use Rattle.rules.specs.Slices.{tree_of}
-use Rattle.counting.specs.Count.{lt?, is_same, is_other, below-le}
+use Rattle.counting.specs.Count.{is_same, below-le}
 use Rattle.counting.specs.Sums.{occurs-cons, sum-at}
 use Rattle.laws.specs.Invariant.Links.{inner, inner_yes}
 use Rattle.laws.specs.ForCode.{Framed, Standing}
@@ -37,24 +37,6 @@ module _ (t : Tree) where
   last_on (suc k) i l e = let q : suc k - 1 ≡ k = omega arith in rw (e, last_under, q)
 
 -- ---- the place of a number in a list
-
-pub place_in : (l : List ℕ) (k c : ℕ) → 0 < occurs c (drop k l) → k < length l
-place_in l k c o = go (lt? k (length l))
-  where
-    go : (k < length l) ⊎ (length l ≤ k) → k < length l
-    go (inl h) = h
-    go (inr h) = let e : drop k l ≡ [] = drop_of_length-le l {i = k} h in let z : occurs c (drop k l) ≡ 0 = ap (occurs c) e
-        ∙ (unfold occurs in refl) in absurd (omega arith)
-
--- it is further on
-pub place_turn : (l : List ℕ) (k c : ℕ) → 0 < occurs c (drop k l) → get_or l k 0 ≢ c → 0 < occurs c (drop (k + 1) l)
-place_turn l k c o d =
-    let h = place_in l k c o in
-    let e : drop k l ≡ get_or l k 0 ∷ drop (k + 1) l = drop-cons l k 0 h ∙ ap (λ m. get_or l k 0 ∷ drop m l) (sym (add-one k)) in
-    let a : occurs c (drop k l) ≡ occurs c (get_or l k 0 ∷ drop (k + 1) l) = ap (occurs c) e in
-    let b = occurs-cons c (get_or l k 0) (drop (k + 1) l) in
-    let f = is_other c (get_or l k 0) (λ z. d (sym z)) in
-    omega arith
 
 -- a number that stands once has one place
 pub one_place : (l : List ℕ) (j k c : ℕ) → occurs c l ≤ 1 → j < length l → k < length l → get_or l j 0 ≡ c → get_or l k 0 ≡ c → j ≡ k

@@ -15,28 +15,14 @@ pub fn last(s: Settings, n: Counters, links: &[u32], i: usize) -> usize
     ensures { AnyFloats s n links.now (λ t. result ≡ last_under t n.nodes i) }
 {
     let mut at = i;
-    let mut left = n.nodes;
-    while left > 0 {
+    for _ in 0..n.nodes {
         if links::is_leaf(s, n, links, at) {
-            return at;
+            break;
         }
         let list = links::list(s, n, links, at);
         at = list[list.len() - 1] as usize;
-        left -= 1;
     }
     at
-}
-
-// The place of a number in a list that has it.
-fn place(list: &[u32], c: usize) -> usize
-    requires { 0 < occurs c list.now }
-    ensures { (result < length list.now) × (get_or list.now result 0 ≡ c) }
-{
-    let mut k = 0;
-    while list[k] as usize != c {
-        k += 1;
-    }
-    k
 }
 
 // The node before node i in preorder, where p lists it: the last beneath the one before it in p's list, or p.
@@ -47,7 +33,9 @@ pub fn before(s: Settings, n: Counters, links: &[u32], p: usize, i: usize) -> us
         (k : ℕ) → k < length (node_at t p).list → get_or (node_at t p).list k 0 ≡ i → result ≡ node_before t p k) }
 {
     let list = links::list(s, n, links, p);
-    let k = place(list, i);
+    let Some(k) = list.iter().position(|&k| k as usize == i) else {
+        return p;
+    };
     if k == 0 {
         return p;
     }

@@ -27,11 +27,9 @@ fn copy_entries(
     ensures any_links { AnyLinks s n floats.now (λ t.
         slots_in s scratch.new result ≡ slots_in s scratch.old count ++ map (entry_at t) list.now) }
 {
-    let mut k = 0;
-    while k < list.len() {
-        let c = entries::summary(s, n, floats, list[k] as usize);
+    for (k, &i) in list.iter().enumerate() {
+        let c = entries::summary(s, n, floats, i as usize);
         slots::store(s, scratch, count + k, c);
-        k += 1;
     }
     count + list.len()
 }
@@ -41,13 +39,11 @@ fn stack_list(list: &[u32], stack: &mut [u32], high: usize) -> usize
     requires { high + length list.now ≤ length stack.old }
     ensures { waiting stack.new result ≡ list.now ++ waiting stack.old high }
 {
-    let len = list.len();
-    let mut k = 0;
-    while k < len {
-        stack[high + k] = list[len - 1 - k];
-        k += 1;
-    }
-    high + len
+    let higher = high + list.len();
+    let top = &mut stack[high..higher];
+    top.copy_from_slice(list);
+    top.reverse();
+    higher
 }
 
 // Depth first from the root, the nodes that wait on a stack in scratch; says how many entries there are.
@@ -66,10 +62,9 @@ pub fn collect(
     stack[0] = n.root as u32;
     let mut high = 1;
     let mut count = 0;
-    let mut left = n.nodes;
-    while left > 0 {
+    for _ in 0..n.nodes {
         if high == 0 {
-            return count;
+            break;
         }
         high -= 1;
         let i = stack[high] as usize;
@@ -79,7 +74,6 @@ pub fn collect(
         } else {
             high = stack_list(list, stack, high);
         }
-        left -= 1;
     }
     count
 }

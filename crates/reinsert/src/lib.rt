@@ -67,10 +67,8 @@ pub fn replace_all(
         ≡ replaced_all s (reverse (slots_in s scratch.now count)) (tree_of s n floats.old links.old) }
 {
     let mut m = n;
-    let mut left = count;
-    while left > 0 {
-        m = replace_slot(s, m, floats, links, scratch, left - 1);
-        left -= 1;
+    for i in (0..count).rev() {
+        m = replace_slot(s, m, floats, links, scratch, i);
     }
     m
 }

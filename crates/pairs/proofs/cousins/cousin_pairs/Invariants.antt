@@ -1,0 +1,12 @@
+-- The pairs so far and those of the nodes left are all.
+use Rattle.std.proofs.Common.{◌≡◌, ◌≤◌, ◌++◌, drop}
+use Rattle.rules.specs.Slices.{tree_of}
+use Rattle.rules.specs.Pairs.{cousins}
+use Rattle.scratch.specs.Stored.{pairs_in}
+use Rattle.pairs.specs.Rooms.{listed_under_to}
+use Rattle.pairs.proofs.cousins.cousin_pairs.Given as goal
+
+abbrev pub invariant-loop-i : goal.invariant-loop-i
+invariant-loop-i l =
+    let t = tree_of l.s l.n l.floats l.links in
+    (l.count ≤ listed_under_to t l.i) × (pairs_in l.costs l.numbers l.count ++ cousins l.s t (drop l.i t.nodes) ≡ cousins l.s t t.nodes)

@@ -50,12 +50,9 @@ module _ (s : Settings) (c : Counters) (n : ℕ) where
   pub entry_slot : (i : ℕ) → Floats s c n → i < c.entries → SlotIn s (node_cap s + i) n
   entry_slot i f h = slot_in (node_cap s + i) f (let k = f.entries_in in omega arith)
 
-  -- the same by a number r that the code has worked out to be the nodes' cap
-  pub entry_place : (i r : ℕ) → Floats s c n → i < c.entries → r ≡ node_cap s → SlotIn s (r + i) n
-  entry_place i r f h e = rw e (entry_slot i f h)
-
-  pub next_place : (r : ℕ) → Floats s c n → c.entries < entry_cap s → r ≡ node_cap s → SlotIn s (r + c.entries) n
-  next_place r f h e = rw e (slot_in (node_cap s + c.entries) f (omega arith))
+  -- the same by a number r that the code has worked out, and up to the cap
+  pub entry_place : (i r : ℕ) → Floats s c n → i < entry_cap s → r ≡ node_cap s + i → SlotIn s r n
+  entry_place i r f h e = rw e (slot_in (node_cap s + i) f (omega arith))
 
   pub caps_small : Floats s c n → (node_cap s ≤ 33153) × (entry_cap s ≤ 257)
   caps_small f = (nodes_small s f.sized, entries_small s f.sized)

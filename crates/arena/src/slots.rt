@@ -13,6 +13,7 @@ use head::Settings;
 use stretch::slot;
 
 // The floats of slot i.
+#[tactic(auto, using(crate::specs::Numbered::slot_fits, crate::specs::Numbered::slot_cut))]
 fn part(s: Settings, floats: &[f64], i: usize) -> &[f64]
     requires { SlotIn s i (length floats.now) }
     ensures { result.now ≡ slot_at s floats.now i }
@@ -23,6 +24,7 @@ fn part(s: Settings, floats: &[f64], i: usize) -> &[f64]
 }
 
 // The summary in slot i.
+#[tactic(auto, using(crate::specs::Numbered::slot_at_long), unfolding(crate::specs::Numbered::summary_at))]
 pub fn load(s: Settings, floats: &[f64], i: usize) -> Summary
     requires { SlotIn s i (length floats.now) }
     ensures { result ≡ summary_at s floats.now i }
@@ -31,6 +33,7 @@ pub fn load(s: Settings, floats: &[f64], i: usize) -> Summary
 }
 
 // The weight in slot i.
+#[tactic(auto, using(crate::specs::Numbered::slot_at_long), unfolding(crate::specs::Numbered::summary_at))]
 pub fn weight(s: Settings, floats: &[f64], i: usize) -> f64
     requires { SlotIn s i (length floats.now) }
     ensures { result ≡ (summary_at s floats.now i).weight }
@@ -39,16 +42,16 @@ pub fn weight(s: Settings, floats: &[f64], i: usize) -> f64
 }
 
 // The distance k from slot i to a row.
+#[tactic(auto, using(crate::specs::Numbered::slot_at_long), unfolding(crate::specs::Numbered::summary_at))]
 pub fn to_row(s: Settings, floats: &[f64], i: usize, k: Distance, row: &[f64]) -> f64
     requires { SlotIn s i (length floats.now) × (s.dim ≤ length row.now) }
     ensures { result ≡ point_of k s.feature s.dim (summary_at s floats.now i) row.now }
 {
-    let w = s.slot_width();
-    let at = i * w;
-    slot::to_row(s, k, &floats[at..at + w], &row[0..])
+    slot::to_row(s, k, part(s, floats, i), row)
 }
 
 // The distance k between slot i and a summary.
+#[tactic(auto, using(crate::specs::Numbered::slot_at_long), unfolding(crate::specs::Numbered::summary_at))]
 pub fn to_summary(s: Settings, floats: &[f64], i: usize, k: Distance, c: Summary) -> f64
     requires { SlotIn s i (length floats.now) }
     ensures { result ≡ between_of k s.feature s.dim (summary_at s floats.now i) c }
@@ -57,6 +60,7 @@ pub fn to_summary(s: Settings, floats: &[f64], i: usize, k: Distance, c: Summary
 }
 
 // The distance k between slot i and the summary in another slot.
+#[tactic(auto, using(crate::specs::Numbered::slot_at_long), unfolding(crate::specs::Numbered::summary_at))]
 pub fn to_slot(s: Settings, floats: &[f64], i: usize, k: Distance, o: &[f64]) -> f64
     requires { SlotIn s i (length floats.now) × Slot s o.now }
     ensures { result ≡ between_of k s.feature s.dim (summary_at s floats.now i) (summary_in s o.now) }
@@ -65,6 +69,7 @@ pub fn to_slot(s: Settings, floats: &[f64], i: usize, k: Distance, o: &[f64]) ->
 }
 
 // The distance k between slots i and j.
+#[tactic(auto, using(crate::specs::Numbered::slot_at_long), unfolding(crate::specs::Numbered::summary_at))]
 pub fn between(s: Settings, floats: &[f64], i: usize, j: usize, k: Distance) -> f64
     requires { SlotIn s i (length floats.now) × SlotIn s j (length floats.now) }
     ensures { result ≡ between_of k s.feature s.dim (summary_at s floats.now i) (summary_at s floats.now j) }
@@ -73,6 +78,7 @@ pub fn between(s: Settings, floats: &[f64], i: usize, j: usize, k: Distance) -> 
 }
 
 // The summary c, stored in slot i.
+#[tactic(auto, using(crate::specs::Numbered::slot_long))]
 pub fn store(s: Settings, floats: &mut [f64], i: usize, c: Summary)
     requires { SlotIn s i (length floats.old) × Shaped s.feature s.dim c }
     ensures { Changed s (λ _. c) i floats.old floats.new }
@@ -83,16 +89,18 @@ pub fn store(s: Settings, floats: &mut [f64], i: usize, c: Summary)
 }
 
 // A row, pushed into slot i where it stands.
+#[tactic(auto, using(crate::specs::Numbered::slot_long))]
 pub fn push(s: Settings, floats: &mut [f64], i: usize, row: &[f64])
     requires { SlotIn s i (length floats.old) × (s.dim ≤ length row.now) }
     ensures { Changed s (push s row.now) i floats.old floats.new }
 {
     let w = s.slot_width();
     let at = i * w;
-    slot::push(s, &mut floats[at..at + w], &row[0..]);
+    slot::push(s, &mut floats[at..at + w], row);
 }
 
 // The summary c, merged into slot i.
+#[tactic(auto, using(crate::specs::Numbered::slot_long))]
 pub fn merge(s: Settings, floats: &mut [f64], i: usize, c: Summary)
     requires { SlotIn s i (length floats.old) × Shaped s.feature s.dim c }
     ensures { Changed s (λ x. merge s x c) i floats.old floats.new }

@@ -1,10 +1,11 @@
--- Whether any leaf is empty, one node more at a time.
-use Rattle.std.specs.Prelude.{ℕ, suc, ◌+◌, ◌≤◌, ◌<◌, ◌≡◌, Bool, true, false, ◌||◌, List, eqb, length, drop, Float}
-use Rattle.std.proofs.Math.Path.{sym, ap}
-use Rattle.std.proofs.Common.{◌∙◌, add-one, drop_of_length-le, drop-cons}
+-- Whether any leaf is empty, told node by node.
+use Rattle.std.specs.Prelude.{ℕ, suc, ◌+◌, ◌<◌, ◌≡◌, refl, Bool, true, false, ◌||◌, List, [], ◌∷◌, eqb, length, get_or, Float}
+use Rattle.std.specs.List.{list_any, range_with_len}
+use Rattle.std.proofs.Math.Path.{ap, ap₂}
+use Rattle.std.proofs.Common.{arith}
 use Rattle.head.specs.declared.Settings.{Settings}
 use Rattle.head.specs.declared.Counters.{Counters}
-use Rattle.rules.specs.Tree.{Node, Tree, blank_node, node_at}
+use Rattle.rules.specs.Tree.{Node, blank_node, node_at}
 use Rattle.rules.specs.Slices.{tree_of}
 use Rattle.rules.specs.Refit.{hollow, any_hollow}
 use Rattle.arena.specs.Trees.{count_nodes_lem}
@@ -20,24 +21,18 @@ module _ (n : Node) where
   unfolding hollow
   hollow-leaf k e q = rw (e, q)
 
--- ---- all nodes: those from node i on are left
+-- ---- all nodes, told one by one
 
-module _ (s : Settings) (n : Counters) (fs : List Float) (ls : List ℕ) (i : ℕ) where
-  abbrev t : Tree
-  t = tree_of s n fs ls
+told : (f : ℕ → Bool) (l : List Node) (a : ℕ) → ((i j : ℕ) → i < length l → j ≡ a + i → f j ≡ hollow (get_or l i blank_node))
+    → list_any f (range_with_len a (length l)) ≡ any_hollow l
+unfolding any_hollow
+told f [] a h = refl
+told f (n ∷ l) a h = ap₂ (λ b c. b || c) (h 0 a (omega arith) (omega arith)) (told f l (a + 1) (λ i j p e. h (suc i) j (omega arith) (omega arith)))
 
-  pub hollow_here : {b : Bool} → i < n.nodes → b ≡ hollow (node_at t i) → b ≡ true → true ≡ any_hollow (drop i t.nodes)
-  unfolding any_hollow node_at
-  hollow_here h e q =
-      sym (ap (λ b. b || any_hollow (drop (suc i) t.nodes)) (sym e ∙ q)) ∙ ap any_hollow (sym (drop-cons t.nodes i blank_node (rw (count_nodes_lem s n fs ls) h)))
-
-  pub hollow-on : {b : Bool} → i < n.nodes → b ≡ hollow (node_at t i) → b ≡ false → any_hollow (drop (i + 1) t.nodes) ≡ any_hollow (drop i t.nodes)
-  unfolding any_hollow node_at
-  hollow-on h e q =
-      ap (λ k. any_hollow (drop k t.nodes)) (add-one i)
-      ∙ sym (ap (λ b. b || any_hollow (drop (suc i) t.nodes)) (sym e ∙ q))
-      ∙ ap any_hollow (sym (drop-cons t.nodes i blank_node (rw (count_nodes_lem s n fs ls) h)))
-
-  pub hollow_end : n.nodes ≤ i → false ≡ any_hollow (drop i t.nodes)
-  unfolding any_hollow
-  hollow_end h = ap any_hollow (sym (drop_of_length-le t.nodes {i = i} (rw (count_nodes_lem s n fs ls) h)))
+pub hollow_told : (s : Settings) (n : Counters) (fs : List Float) (ls : List ℕ)
+    → list_any (λ i. hollow (node_at (tree_of s n fs ls) i)) (range_with_len 0 n.nodes) ≡ any_hollow (tree_of s n fs ls).nodes
+unfolding node_at
+hollow_told s n fs ls =
+    let t = tree_of s n fs ls in
+    rw (count_nodes_lem s n fs ls) at
+    (told (λ i. hollow (get_or t.nodes i blank_node)) t.nodes 0 (λ i j p e. ap (λ k. hollow (get_or t.nodes k blank_node)) (omega arith)))

@@ -3,6 +3,8 @@ use Rattle.std.specs.Prelude.{ℕ, suc, ◌+◌, ◌-◌, ◌≤◌, ◌<◌, �
 use Rattle.std.proofs.Math.Path.{refl, sym, ap, ap₂, subst}
 use Rattle.std.proofs.Common.{◌∙◌, add-one}
 use Rattle.std.proofs.Math.Bool.{true, false}
+use Rattle.std.specs.declared.ops.ControlFlow.{ControlFlow}
+use Rattle.std.specs.declared.ops.ControlFlow.TheVariants.{Continue, Break}
 use Rattle.std.proofs.lemmas.Bool.{false≢true}
 use native.Mathlib.Omega.{arith}
 use Rattle.std.proofs.lemmas.List.{length-map}
@@ -36,6 +38,15 @@ pub record Pourable (s : Settings) (count : ℕ) (t : Tree) : Type 0 where
   pub few : count ≤ most
 
 -- ---- one round
+
+-- the counters after a round, and whether it was the last, as the code hands them on
+abbrev pub counted : ControlFlow Counters Counters → Counters
+counted (Continue n) = n
+counted (Break n) = n
+
+abbrev pub last : ControlFlow Counters Counters → Bool
+last (Continue n) = false
+last (Break n) = true
 
 -- the tree after a round, and whether it was the last
 pub record After : Type 0 where

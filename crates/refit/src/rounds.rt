@@ -10,7 +10,7 @@ ghost use Rattle.scratch.specs.Flags.{alive_in};
 ghost use Rattle.merging.specs.Pruning.{LeavesIn};
 ghost use Rattle.reinsert.specs.Whole.{Reinsertable};
 ghost use Rattle.scratch.specs.Stored.{Scratch};
-ghost use Rattle.refit.specs.Rounds.{after, placed_again, one_round, Pourable};
+ghost use Rattle.refit.specs.Rounds.{counted, last, after, placed_again, one_round, Pourable};
 ghost use Rattle.rules.specs.Route.{greedy};
 
 use arena::links;
@@ -18,6 +18,7 @@ use head::{Counters, Settings};
 use merging::dropping::drop_merged;
 use pouring::reaccumulate;
 use reinsert::reinsert;
+use std::ops::ControlFlow;
 
 // Whether node i is a leaf with nothing in it.
 fn is_hollow(s: Settings, n: Counters, links: &[u32], i: usize) -> bool
@@ -35,14 +36,7 @@ fn any_hollow(s: Settings, n: Counters, links: &[u32]) -> bool
     requires { Links s n (length links.now) }
     ensures { AnyFloats s n links.now (λ t. result ≡ any_hollow t.nodes) }
 {
-    let mut i = 0;
-    while i < n.nodes {
-        if is_hollow(s, n, links, i) {
-            return true;
-        }
-        i += 1;
-    }
-    false
+    (0..n.nodes).any(|i| is_hollow(s, n, links, i))
 }
 
 // Whether a tree without its unused entries stays as it is: a round has reinserted, and no leaf was emptied.
@@ -56,14 +50,7 @@ fn enough(s: Settings, n: Counters, links: &[u32], done: usize) -> bool
     1 <= done
 }
 
-// The counters after a round, and whether it was the last.
-#[derive(Clone, Copy)]
-struct Turn {
-    counters: Counters,
-    last: bool,
-}
-
-// The unused entries dropped, and the others placed again unless that is enough.
+// The unused entries dropped, and the others placed again unless that is enough: then the rounds end.
 fn drop_unused(
     s: Settings,
     n: Counters,
@@ -72,29 +59,22 @@ fn drop_unused(
     scratch: &mut [f64],
     numbers: &mut [u32],
     done: usize,
-) -> Turn
+) -> ControlFlow<Counters, Counters>
     requires floats { Floats s n (length floats.old) × Links s n (length links.old) × Scratch s (length scratch.old) (length numbers.old) }
     requires leaves_in { LeavesIn n (tree_of s n floats.old links.old)
         × Reinsertable s (dropped (alive_in numbers.old n.entries) (tree_of s n floats.old links.old)) }
-    ensures floats_2 { Floats s result.counters (length floats.old) × Links s result.counters (length links.old) }
-    ensures last_after { after (tree_of s result.counters floats.new links.new) result.last
+    ensures floats_2 { Floats s (counted result) (length floats.old) × Links s (counted result) (length links.old) }
+    ensures last_after { after (tree_of s (counted result) floats.new links.new) (last result)
         ≡ placed_again s done (dropped (alive_in numbers.old n.entries) (tree_of s n floats.old links.old)) }
 {
     let m = drop_merged(s, n, floats, links, numbers);
     if enough(s, m, links, done) {
-        return Turn {
-            counters: m,
-            last: true,
-        };
+        return ControlFlow::Break(m);
     }
-    let counters = reinsert(s, m, floats, links, scratch, numbers);
-    Turn {
-        counters,
-        last: false,
-    }
+    ControlFlow::Continue(reinsert(s, m, floats, links, scratch, numbers))
 }
 
-// One round, `done` of them before it.
+// One round, `done` of them before it; it breaks off the rounds if it was the last.
 fn round(
     s: Settings,
     n: Counters,
@@ -105,18 +85,15 @@ fn round(
     rows: &[f64],
     count: usize,
     done: usize,
-) -> Turn
+) -> ControlFlow<Counters, Counters>
     requires floats { Floats s n (length floats.old) × Links s n (length links.old) × Scratch s (length scratch.old) (length numbers.old) }
     requires dim_in_bounds { (count * s.dim ≤ length rows.now) × Pourable s count (tree_of s n floats.old links.old) }
-    ensures floats_2 { Floats s result.counters (length floats.old) × Links s result.counters (length links.old) }
-    ensures last_after { after (tree_of s result.counters floats.new links.new) result.last
+    ensures floats_2 { Floats s (counted result) (length floats.old) × Links s (counted result) (length links.old) }
+    ensures last_after { after (tree_of s (counted result) floats.new links.new) (last result)
         ≡ one_round s (rows_of count s.dim rows.now) done (tree_of s n floats.old links.old) }
 {
     if reaccumulate(s, n, floats, links, scratch, numbers, rows, count) {
-        return Turn {
-            counters: n,
-            last: true,
-        };
+        return ControlFlow::Break(n);
     }
     drop_unused(s, n, floats, links, scratch, numbers, done)
 }
@@ -139,14 +116,11 @@ pub fn rounds(
         ≡ refit_rounds s (greedy s) (rows_of count s.dim rows.now) n.entries 0 (tree_of s n floats.old links.old) }
 {
     let mut m = n;
-    let mut done = 0;
-    while done < n.entries {
-        let turn = round(s, m, floats, links, scratch, numbers, rows, count, done);
-        m = turn.counters;
-        if turn.last {
-            return m;
-        }
-        done += 1;
+    for done in 0..n.entries {
+        m = match round(s, m, floats, links, scratch, numbers, rows, count, done) {
+            ControlFlow::Break(end) => return end,
+            ControlFlow::Continue(next) => next,
+        };
     }
     m
 }

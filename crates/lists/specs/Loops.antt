@@ -4,17 +4,14 @@ use Rattle.std.specs.Prelude.{◌≡◌, ◌⊎◌, ◌≢◌, Bool, ◌&&◌, T
 use Rattle.std.proofs.Math.Path.{refl, sym, ap}
 use Rattle.std.proofs.Common.{◌∙◌, subst, inl, inr, add-one, arith}
 use Rattle.std.proofs.Math.Bool.{true, false}
-use mathlib.Core.List.{List, [], ◌∷◌, map}
-use Rattle.std.specs.List.{list_all, range_with_len}
+use mathlib.Core.List.{List, [], ◌∷◌}
+use Rattle.std.specs.List.{list_all}
 use Rattle.std.specs.Float.Ieee.Bits.{is_true}
-use Rattle.feature.specs.declared.Summary.{Summary}
 use Rattle.rules.specs.Lists.{every, up_from, occurs}
-use Rattle.rules.specs.Check.{total_of}
-use Rattle.counting.specs.Count.{same?, is, is_same, is_other}
+use Rattle.counting.specs.Count.{same?, is}
 use Rattle.counting.specs.Sums.{over, occurs-over, sum_to}
 use Rattle.laws.specs.Invariant.Height.{sum_first}
 use Rattle.laws.specs.Check.Passing.{every_up}
-use Rattle.rules.specs.Tree.{row_count}
 
 -- ---- tests
 
@@ -23,16 +20,6 @@ abbrev pub Passed : (ℕ → Bool) → ℕ → Type 0
 Passed f i = (k : ℕ) → k < i → f k ≡ true
 
 module _ (f : ℕ → Bool) where
-  pub passed_none : Passed f 0
-  passed_none k h = absurd (omega arith)
-
-  pub passed_more : (i : ℕ) {b : Bool} → Passed f i → b ≡ f i → b ≡ true → Passed f (i + 1)
-  passed_more i h e t k q = go (same? k i)
-    where
-      go : (k ≡ i) ⊎ (k ≢ i) → f k ≡ true
-      go (inl w) = ap f w ∙ sym e ∙ t
-      go (inr w) = h k (omega arith)
-
   pub passed_all : (n i : ℕ) → Passed f i → n ≤ i → true ≡ every f (up_from n 0)
   passed_all n i h q = sym (is_true (every f (up_from n 0)) (every_up f n 0 (λ c l. subst T (sym (h c (omega arith))) tt)))
 
@@ -51,26 +38,6 @@ module _ (f : ℕ → Bool) where
 
   pub fails_at : (n i : ℕ) {b : Bool} → i < n → b ≡ f i → b ≡ false → false ≡ every f (up_from n 0)
   fails_at n i l e t = sym (fails_from n 0 i (omega arith) (omega arith) (sym e ∙ t))
-
--- the tests of the numbers below i have failed
-abbrev pub Failed : (ℕ → Bool) → ℕ → Type 0
-Failed f i = (k : ℕ) → k < i → f k ≡ false
-
-pub failed_none : (f : ℕ → Bool) → Failed f 0
-failed_none f k h = absurd (omega arith)
-
-pub failed_more : (f : ℕ → Bool) (i : ℕ) {b : Bool} → Failed f i → b ≡ f i → b ≡ false → Failed f (i + 1)
-failed_more f i h e t k q = go (same? k i)
-  where
-    go : (k ≡ i) ⊎ (k ≢ i) → f k ≡ false
-    go (inl w) = ap f w ∙ sym e ∙ t
-    go (inr w) = h k (omega arith)
-
--- equal tests
-pub every-same : (f g : ℕ → Bool) (n j : ℕ) → ((k : ℕ) → f k ≡ g k) → every f (up_from n j) ≡ every g (up_from n j)
-unfolding every up_from
-every-same f g zero j h = refl
-every-same f g (suc n) j h = rw (h j, every-same f g n (suc j) h)
 
 module _ {A : Type 0} (f : A → Bool) (d : A) where
   shifted : (x : A) (xs : List A) (n j : ℕ) → every (λ k. f (get_or (x ∷ xs) k d)) (up_from n (suc j)) ≡ every (λ k. f (get_or xs k d)) (up_from n j)
@@ -93,11 +60,6 @@ pub every_all : {A : Type 0} (f : A → Bool) (l : List A) → list_all f l ≡ 
 unfolding every
 every_all f [] = refl
 every_all f (x ∷ l) = ap (λ b. f x && b) (every_all f l)
-
-pub up_range : (n i : ℕ) → range_with_len i n ≡ up_from n i
-unfolding up_from
-up_range zero i = refl
-up_range (suc n) i = ap (λ l. i ∷ l) (rw (add-one i) (up_range n (suc i)))
 
 -- ---- places
 
@@ -128,14 +90,6 @@ sum_grows g (suc n) i h = go (same? i (suc n)) (sum_grows g n i)
     go (inl e) ih = subst (λ j. sum_to g j ≤ sum_to g n + g n) (sym e) (omega arith)
     go (inr e) ih = let a = ih (omega arith) in omega arith
 
--- one more where c is there, and no more where it is not
-pub count_more : (c : ℕ) (f : ℕ → ℕ) (i : ℕ) {a x : ℕ} → a ≡ sum_to (λ k. is c (f k)) i → x ≡ f i → x ≡ c → a + 1 ≡ sum_to (λ k. is c (f k)) (i + 1)
-count_more c f i e h q = sum_more (λ k. is c (f k)) i e (sym (is_same c (f i) (sym q ∙ h)))
-
-pub count_same : (c : ℕ) (f : ℕ → ℕ) (i : ℕ) {a x : ℕ} → a ≡ sum_to (λ k. is c (f k)) i → x ≡ f i → x ≢ c → a ≡ sum_to (λ k. is c (f k)) (i + 1)
-count_same c f i {a} e h q =
-    let z = sum_more (λ k. is c (f k)) i e (sym (is_other c (f i) (λ w. q (h ∙ sym w)))) in let w : a ≡ a + 0 = omega arith in w ∙ z
-
 -- a list's numbers, place by place
 pub over-places : (w : ℕ → ℕ) (l : List ℕ) → over w l ≡ sum_to (λ k. w (get_or l k 0)) (length l)
 unfolding over sum_to
@@ -144,8 +98,3 @@ over-places w (x ∷ l) = let a = over-places w l in let b = sum_first (λ k. w 
 
 pub occurs-places : (c : ℕ) (l : List ℕ) → occurs c l ≡ sum_to (λ k. is c (get_or l k 0)) (length l)
 occurs-places c l = occurs-over c l ∙ over-places (is c) l
-
-pub total-places : (f : ℕ → Summary) (l : List ℕ) → total_of (map f l) ≡ sum_to (λ k. row_count (f (get_or l k 0))) (length l)
-unfolding total_of sum_to
-total-places f [] = refl
-total-places f (x ∷ l) = let a = total-places f l in let b = sum_first (λ k. row_count (f (get_or (x ∷ l) k 0))) (length l) in omega arith

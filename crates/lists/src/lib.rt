@@ -13,6 +13,7 @@ use arena::links;
 use head::{Counters, Settings};
 
 // The most that a list holds.
+#[tactic(auto, unfolding(rules::specs::Tree::cap))]
 fn cap(s: Settings, leaf: bool) -> usize
     ensures { result ≡ cap s leaf }
 {

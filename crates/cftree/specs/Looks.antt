@@ -1,12 +1,11 @@
 -- What a call that only reads gives back and writes, as the rules' outcome of the call.
-use Rattle.std.specs.Prelude.{ℕ}
+use Rattle.std.specs.Prelude.{ℕ, Ok, Err}
 use Rattle.std.proofs.Math.Path.{◌≡◌}
 use Rattle.std.proofs.Common.{sym, ◌∙◌, arith}
 use mathlib.Core.List.{List, [], ◌∷◌}
 use Rattle.head.specs.declared.Head.{Head}
 use Rattle.head.specs.declared.refusal.Refusal.{Refusal}
-use Rattle.head.specs.declared.refusal.Answer.{Answer}
-use Rattle.head.specs.declared.refusal.Answer.TheVariants.{Accepted, Refused}
+use Rattle.head.specs.Refusals.{Answer}
 use Rattle.rules.specs.declared.Places.{Places}
 use Rattle.rules.specs.Calls.{Shown, Written, answer_of, fronted, write, shown_by}
 use Rattle.rules.specs.RefusalLaws.{accepted_none}
@@ -21,7 +20,7 @@ module _ {A : Type 0} where
 
   -- refused, the output is as lent; accepted, its front is new
   module _ (rs : List Refusal) {a : Answer} (e : a ≡ answer_of rs) (new old : List A) where
-    pub unwritten : {r : Refusal} → a ≡ Refused r → written a old ≡ write rs new old
+    pub unwritten : {r : Refusal} → a ≡ Err r → written a old ≡ write rs new old
     unfolding answer_of write
     unwritten {r} q = go rs e
       where
@@ -29,13 +28,13 @@ module _ {A : Type 0} where
         go [] e = let z : ◌≡◌ {A = ℕ} 0 1 = cc in absurd (omega arith)
         go (x ∷ rs) e = rw e
 
-    pub front_written : a ≡ Accepted → {out : List A} → out ≡ fronted new old → written a out ≡ write rs new old
+    pub front_written : a ≡ Ok tt → {out : List A} → out ≡ fronted new old → written a out ≡ write rs new old
     unfolding write
     front_written q o = rw (accepted_none rs (sym e ∙ q), q, o)
 
 -- the listing
 module _ (h : Head) (rs : List Refusal) {a : Answer} (e : a ≡ answer_of rs) where
-  pub unlisted : {r : Refusal} → a ≡ Refused r
+  pub unlisted : {r : Refusal} → a ≡ Err r
       → listing (record { answer = a; places = record { entries = 0; first = 0; width = 0; means = 0; deviations = 0 } }) ≡ shown_by rs h
   unfolding answer_of shown_by
   unlisted {r} q = go rs e
@@ -45,6 +44,6 @@ module _ (h : Head) (rs : List Refusal) {a : Answer} (e : a ≡ answer_of rs) wh
       go [] e = let z : ◌≡◌ {A = ℕ} 0 1 = cc in absurd (omega arith)
       go (x ∷ rs) e = rw e
 
-  pub all_listed : a ≡ Accepted → {p : Places} → p ≡ (shown_by [] h).places → listing (record { answer = a; places = p }) ≡ shown_by rs h
+  pub all_listed : a ≡ Ok tt → {p : Places} → p ≡ (shown_by [] h).places → listing (record { answer = a; places = p }) ≡ shown_by rs h
   unfolding shown_by
   all_listed q o = rw (accepted_none rs (sym e ∙ q), q, o)

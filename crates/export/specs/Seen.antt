@@ -2,7 +2,7 @@
 use Rattle.std.specs.Prelude.{◌≡◌, List}
 use Rattle.std.proofs.Common.{ap}
 use Rattle.rules.specs.Calls.{Shown, Written}
-use Rattle.head.specs.declared.refusal.Answer.{Answer}
+use Rattle.head.specs.Refusals.{Answer}
 use Rattle.cftree.specs.Looks as Plain
 use Rattle.cftree.specs.declared.look.Listing.{Listing}
 use Rattle.boundary.specs.Numbers.{answer_numbers}

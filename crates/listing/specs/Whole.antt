@@ -1,5 +1,5 @@
 -- The listing of an input that is there as a whole: what the call gives back and writes, for any input and any output.
-use Rattle.std.specs.Prelude.{ℕ, ◌+◌, ◌≤◌, ◌<◌, ◌≡◌, drop}
+use Rattle.std.specs.Prelude.{ℕ, ◌+◌, ◌≤◌, ◌<◌, ◌≡◌, drop, Ok, Err}
 use Rattle.std.proofs.Math.Path.{ap}
 use mathlib.Core.List.{List, [], ◌∷◌}
 use native.Mathlib.Omega.{arith}
@@ -8,7 +8,6 @@ use Rattle.std.proofs.lemmas.Bool.{lt-leb}
 use Rattle.std.proofs.Math.ListN.{length, length-append}
 use Rattle.head.specs.declared.refusal.Refusal.{Refusal}
 use Rattle.head.specs.declared.refusal.Refusal.TheVariants as R
-use Rattle.head.specs.declared.refusal.Answer.TheVariants.{Accepted, Refused}
 use Rattle.rules.specs.Calls.{Written, unless, output_refusal, fronted, write}
 use Rattle.rules.specs.Listing.{rowlist}
 use Rattle.text.specs.Written.{written}
@@ -35,12 +34,12 @@ listed_to input out =
     record { written = write rs (rowlist input) out; long = long_by rs (rowlist input) }
 
 module _ (input out : List ℕ) where
-  pub list_refused : length out < page → shown (record { answer = Refused R.Output; long = 0 }) out ≡ listed_to input out
+  pub list_refused : length out < page → shown (record { answer = Err R.Output; long = 0 }) out ≡ listed_to input out
   unfolding listed_to output_refusal unless write long_by
   list_refused h = rw (lt-leb page (length out) h)
 
   pub list_written : page ≤ length out → {now : List ℕ} {n : ℕ} → Wrote 0 (rowlist input) out now n
-      → shown (record { answer = Accepted; long = n }) now ≡ listed_to input out
+      → shown (record { answer = Ok tt; long = n }) now ≡ listed_to input out
   unfolding listed_to output_refusal unless write long_by fronted written
   list_written h w =
       let all : 0 + length (rowlist input) ≡ length (rowlist input) = omega arith in

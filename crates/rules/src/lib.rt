@@ -8,13 +8,6 @@ pub enum Nearest {
     Nothing,
 }
 
-// What the tree check says: that the tree passes, or the lowest condition that fails.
-#[derive(Clone, Copy)]
-pub enum Verdict {
-    Passes,
-    Fails(u32),
-}
-
 // Where a caller reads the entries: entry i's weight is float `first` + i·`width`; its means follow, then its deviations.
 #[derive(Clone, Copy)]
 pub struct Places {

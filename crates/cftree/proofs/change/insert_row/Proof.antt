@@ -6,7 +6,7 @@ use Rattle.cftree.specs.Outcomes.{refused_as_lent, done_as_ruled}
 use Rattle.cftree.specs.Accepted.{insertable}
 use Rattle.work.specs.Worked.{one_row}
 use Rattle.refusals.specs.Lending.{lending}
-use Rattle.head.specs.declared.refusal.Answer.TheVariants.{Accepted}
+use Rattle.std.specs.Prelude.{Ok}
 use Rattle.head.specs.Heads.{settings_of}
 use Rattle.rules.specs.Calls.{Lent, answer_of, lent_tree, row_refusals, row_inserted, changed}
 use Rattle.rules.specs.CallLaws.{row_taken}
@@ -20,7 +20,7 @@ lent c = lending c.args.floats.now c.args.links.now c.args.scratch.now c.args.nu
 abbrev start : tie.In-Accepted → tie.Start
 start c = c.before.before.before.before.before.before.before
 
-accepts : (c : tie.In-Accepted) → answer_of (row_refusals (start c).args.h (lent (start c)) (start c).args.row.now) ≡ Accepted
+accepts : (c : tie.In-Accepted) → answer_of (row_refusals (start c).args.h (lent (start c)) (start c).args.row.now) ≡ Ok tt
 accepts c = sym c.row-answer.ensures ∙ c.in-Accepted.is
 
 returns : tie.Need-returns-in_default

@@ -4,7 +4,7 @@ use borrow.Author.Rules.{rules}
 use Rattle.cftree.specs.Outcomes.{refused_as_lent, done_as_ruled}
 use Rattle.cftree.specs.Accepted.{rows_in, refittable}
 use Rattle.refusals.specs.Lending.{lending}
-use Rattle.head.specs.declared.refusal.Answer.TheVariants.{Accepted}
+use Rattle.std.specs.Prelude.{Ok}
 use Rattle.head.specs.Heads.{settings_of}
 use Rattle.head.specs.Limits.{allowed-sized}
 use Rattle.rules.specs.Calls.{Lent, answer_of, refit_refusals, batch_refitted}
@@ -20,7 +20,7 @@ lent c = lending c.args.floats.now c.args.links.now c.args.scratch.now c.args.nu
 abbrev start : tie.In-Accepted → tie.Start
 start c = c.before.before.before.before.before.before.before
 
-accepts : (c : tie.In-Accepted) → answer_of (refit_refusals (start c).args.h (lent (start c)) (start c).args.rows.now) ≡ Accepted
+accepts : (c : tie.In-Accepted) → answer_of (refit_refusals (start c).args.h (lent (start c)) (start c).args.rows.now) ≡ Ok tt
 accepts c = sym c.refit-answer.ensures ∙ c.in-Accepted.is
 
 returns : tie.Need-returns-in_default

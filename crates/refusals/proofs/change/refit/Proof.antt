@@ -8,7 +8,7 @@ use Rattle.head.specs.Limits.{allowed-sized}
 use Rattle.head.specs.Heads.{settings_of}
 use Rattle.rules.specs.Calls.{answer_of, lent_tree, Lent}
 use Rattle.arena.specs.Trees.{count_entries_lem}
-use Rattle.head.specs.declared.refusal.Answer.TheVariants.{Accepted}
+use Rattle.std.specs.Prelude.{Ok}
 use Rattle.rules.specs.Slices.{tree_of}
 use Rattle.refusals.proofs.change.refit.Statement.{statement}
 use Rattle.refusals.proofs.change.refit.Tie as tie
@@ -20,7 +20,7 @@ lent c = lending c.args.floats.now c.args.links.now c.args.scratch.now c.args.nu
 abbrev start : tie.In-Accepted → tie.Start
 start c = c.before.before.before.before.before.before.before
 
-accepts : (c : tie.In-Accepted) → answer_of (before_full (start c).args.h (lent (start c)) (start c).args.rows.now) ≡ Accepted
+accepts : (c : tie.In-Accepted) → answer_of (before_full (start c).args.h (lent (start c)) (start c).args.rows.now) ≡ Ok tt
 accepts c = sym c.rows_asked-a.ensures ∙ c.in-Accepted.is
 
 returns : tie.Need-returns-in_default

@@ -7,7 +7,7 @@ use Rattle.refusals.specs.Lending.{lending}
 use Rattle.rules.specs.Calls.{answer_of, change_refusals, row_asked, row_refusals, row_shape_refusal, lent_tree, Lent}
 use Rattle.rules.specs.CallLaws.{Ready}
 use borrow.Author.Tests.{eq-eqb, ne_eqb}
-use Rattle.head.specs.declared.refusal.Answer.TheVariants.{Accepted}
+use Rattle.std.specs.Prelude.{Ok}
 use Rattle.refusals.proofs.change.row.Statement.{statement}
 use Rattle.refusals.proofs.change.row.Tie as tie
 
@@ -18,7 +18,7 @@ lent c = lending c.args.floats.now c.args.links.now c.args.scratch.now c.args.nu
 abbrev start : tie.In-Accepted → tie.Start
 start c = c.before.before.before.before.before.before.before
 
-accepts : (c : tie.In-Accepted) → answer_of (change_refusals (start c).args.h (lent (start c))) ≡ Accepted
+accepts : (c : tie.In-Accepted) → answer_of (change_refusals (start c).args.h (lent (start c))) ≡ Ok tt
 accepts c = sym c.change-a.ensures ∙ c.in-Accepted.is
 
 ready : (c : tie.In-Accepted) → Ready (start c).args.h (lent (start c))

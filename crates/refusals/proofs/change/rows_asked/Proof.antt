@@ -7,7 +7,7 @@ use Rattle.refusals.specs.Lending.{lending}
 use Rattle.head.specs.Limits.{allowed-sized}
 use Rattle.head.specs.Heads.{settings_of}
 use Rattle.rules.specs.Calls.{answer_of, change_refusals, rows_asked}
-use Rattle.head.specs.declared.refusal.Answer.TheVariants.{Accepted}
+use Rattle.std.specs.Prelude.{Ok}
 use Rattle.refusals.proofs.change.rows_asked.Statement.{statement}
 use Rattle.refusals.proofs.change.rows_asked.Tie as tie
 
@@ -16,7 +16,7 @@ abbrev start : tie.In-Accepted → tie.Start
 start c = c.before.before.before.before.before.before.before
 
 accepts : (c : tie.In-Accepted) → let a = (start c).args in
-    answer_of (change_refusals a.h (lending a.floats.now a.links.now a.scratch.now a.numbers.now)) ≡ Accepted
+    answer_of (change_refusals a.h (lending a.floats.now a.links.now a.scratch.now a.numbers.now)) ≡ Ok tt
 accepts c = sym c.change-a.ensures ∙ c.in-Accepted.is
 
 returns : tie.Need-returns-in_default

@@ -10,7 +10,7 @@ use Rattle.head.specs.Heads.{settings_of}
 use Rattle.rules.specs.Calls.{answer_of, room_refusal, create_refusals, Lent, tree_refusal, lent_tree}
 use Rattle.rules.specs.CallLaws.{Granted}
 use Rattle.head.specs.declared.refusal.Refusal.{Refusal}
-use Rattle.head.specs.declared.refusal.Answer.TheVariants.{Accepted}
+use Rattle.std.specs.Prelude.{Ok}
 use Rattle.head.specs.Sizes.{scratch_floats_needed, scratch_links_needed}
 use Rattle.rules.specs.Check.{checked}
 use Rattle.refusals.proofs.lent.change.Statement.{statement}
@@ -32,7 +32,7 @@ rest c = let h = c.args.h in tree_refusal (checked (settings_of h) (lent_tree h 
 abbrev start : tie.In-Accepted → tie.Start
 start c = c.before.before.before.before.before.before
 
-accepts : (c : tie.In-Accepted) → answer_of (create_refusals (start c).args.h (start c).args.floats.now (start c).args.links.now) ≡ Accepted
+accepts : (c : tie.In-Accepted) → answer_of (create_refusals (start c).args.h (start c).args.floats.now (start c).args.links.now) ≡ Ok tt
 accepts c = sym c.create-a.ensures ∙ c.in-Accepted.is
 
 roomy : (c : tie.In-Accepted) → Granted (start c).args.h (start c).args.floats.now (start c).args.links.now

@@ -7,7 +7,7 @@ use Rattle.refusals.specs.Granted.{look_grants}
 use Rattle.head.specs.Heads.{settings_of}
 use Rattle.rules.specs.Calls.{answer_of, lent_tree, tree_refusals, route_asked, route_refusals}
 use Rattle.arena.specs.Trees.{count_entries_lem}
-use Rattle.head.specs.declared.refusal.Answer.TheVariants.{Accepted}
+use Rattle.std.specs.Prelude.{Ok}
 use Rattle.rules.specs.Slices.{tree_of}
 use Rattle.refusals.proofs.look.route.Statement.{statement}
 use Rattle.refusals.proofs.look.route.Tie as tie
@@ -16,7 +16,7 @@ use Rattle.refusals.proofs.look.route.Tie as tie
 abbrev start : tie.In-Accepted → tie.Start
 start c = c.before.before.before.before.before.before
 
-accepts : (c : tie.In-Accepted) → answer_of (tree_refusals (start c).args.h (start c).args.floats.now (start c).args.links.now) ≡ Accepted
+accepts : (c : tie.In-Accepted) → answer_of (tree_refusals (start c).args.h (start c).args.floats.now (start c).args.links.now) ≡ Ok tt
 accepts c = sym c.look-a.ensures ∙ c.in-Accepted.is
 
 some : (c : tie.In-Accepted) → 0 < (start c).args.h.dim

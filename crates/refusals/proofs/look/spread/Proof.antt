@@ -9,7 +9,7 @@ use Rattle.refusals.specs.Granted.{spread_small}
 use Rattle.head.specs.Heads.{settings_of}
 use Rattle.rules.specs.Calls.{answer_of, lent_tree, output_refusal, tree_refusals, spread_asked, spread_refusals}
 use Rattle.arena.specs.Trees.{count_entries_lem}
-use Rattle.head.specs.declared.refusal.Answer.TheVariants.{Accepted}
+use Rattle.std.specs.Prelude.{Ok}
 use Rattle.refusals.proofs.look.spread.Statement.{statement}
 use Rattle.refusals.proofs.look.spread.Tie as tie
 
@@ -17,7 +17,7 @@ use Rattle.refusals.proofs.look.spread.Tie as tie
 abbrev start : tie.In-Accepted → tie.Start
 start c = c.before.before.before.before.before
 
-accepts : (c : tie.In-Accepted) → answer_of (tree_refusals (start c).args.h (start c).args.floats.now (start c).args.links.now) ≡ Accepted
+accepts : (c : tie.In-Accepted) → answer_of (tree_refusals (start c).args.h (start c).args.floats.now (start c).args.links.now) ≡ Ok tt
 accepts c = sym c.look-a.ensures ∙ c.in-Accepted.is
 
 returns : tie.Need-returns-in_default

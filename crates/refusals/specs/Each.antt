@@ -1,22 +1,39 @@
 -- Each refusal by its test: given where the test says so, and nothing where it does not.
-use Rattle.std.specs.Prelude.{ℕ, ◌+◌, ◌%◌, ◌≤◌, ◌<◌, ◌≡◌, refl, Bool, true, false, ◌||◌, eqb, length, Ok, Err}
-use Rattle.std.proofs.Common.{arith}
+use Rattle.std.specs.Prelude.{ℕ, ◌+◌, ◌%◌, ◌≤◌, ◌<◌, ◌≡◌, refl, Bool, true, false, ◌||◌, eqb, List, ◌++◌, length, Ok, Err, MatchResult, IsErrAnd}
+use Rattle.std.proofs.Common.{arith, sym, ap, ◌∙◌}
+use Rattle.std.proofs.lemmas.Result.{err_from_is_err_and}
 use borrow.Author.Tests.{le-leb, lt-leb, eq-eqb, ne_eqb}
 use Rattle.binary64.specs.Whole.{most}
+use Rattle.head.specs.declared.refusal.Refusal.{Refusal}
 use Rattle.head.specs.declared.refusal.Refusal.TheVariants as R
+use Rattle.head.specs.Refusals.{Answer}
 use Rattle.rules.specs.Check.{total_of, Verdict}
 use Rattle.rules.specs.Tree.{Tree}
 use Rattle.rules.specs.Calls.{answer_of, tree_refusal, batch_shape_refusal, empty_refusal, insert_full_refusal, refit_full_refusal, output_refusal}
-use Rattle.rules.specs.RefusalLaws.{only_refused, only_passed}
+use Rattle.rules.specs.RefusalLaws.{only_refused, only_passed, answer_then, answer_first}
 
--- 3
-pub tree_passes : (v : Verdict) → v ≡ Ok tt → Ok tt ≡ answer_of (tree_refusal v)
-unfolding tree_refusal answer_of
-tree_passes v e = rw e
+-- ---- a call's refusals in turn
 
-pub tree_fails : (v : Verdict) (k : ℕ) → v ≡ Err k → Err (R.Tree k) ≡ answer_of (tree_refusal v)
+-- what a `?` gives back: the refusal that it met
+pub passed_up : {a : Answer} {r : Refusal} → IsErrAnd a (λ q. q ≡ r) → a ≡ Err r
+passed_up {a} e = let p = err_from_is_err_and a e in p.1 ∙ ap Err p.2
+
+module _ (xs ys : List Refusal) where
+  -- the first that applies is given
+  pub refused_first : {r : Refusal} → Err r ≡ answer_of xs → Err r ≡ answer_of (xs ++ ys)
+  refused_first e = e ∙ answer_first xs ys (sym e)
+
+  -- where none of the first does, the answer is the others'
+  pub others_answer : {a : Answer} → Ok tt ≡ answer_of xs → a ≡ answer_of ys → a ≡ answer_of (xs ++ ys)
+  others_answer e q = q ∙ answer_then xs ys (sym e)
+
+-- ---- each
+
+-- 3: the condition that fails, as the refusal
+pub tree_told : {a : Answer} (v : Verdict) → MatchResult v (λ x. a ≡ Ok x) (λ k. IsErrAnd a (λ r. r ≡ R.Tree k)) → a ≡ answer_of (tree_refusal v)
 unfolding tree_refusal answer_of
-tree_fails v k e = rw e
+tree_told (Ok tt) e = e
+tree_told (Err k) e = passed_up e
 
 -- 4
 module _ (dim n : ℕ) where

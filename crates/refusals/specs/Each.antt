@@ -1,5 +1,5 @@
 -- Each refusal by its test: given where the test says so, and nothing where it does not.
-use Rattle.std.specs.Prelude.{ℕ, ◌+◌, ◌%◌, ◌≤◌, ◌<◌, ◌≡◌, refl, Bool, true, false, ◌||◌, eqb, List, ◌++◌, length, Ok, Err, MatchResult, IsErrAnd}
+use Rattle.std.specs.Prelude.{ℕ, ◌+◌, ◌%◌, ◌≤◌, ◌<◌, ◌≡◌, refl, Bool, true, false, ◌||◌, eqb, List, ◌++◌, length, Result, Ok, Err, MatchResult, IsErrAnd}
 use Rattle.std.proofs.Common.{arith, sym, ap, ◌∙◌}
 use Rattle.std.proofs.lemmas.Result.{err_from_is_err_and}
 use borrow.Author.Tests.{le-leb, lt-leb, eq-eqb, ne_eqb}
@@ -15,8 +15,8 @@ use Rattle.rules.specs.RefusalLaws.{only_refused, only_passed, answer_then, answ
 -- ---- a call's refusals in turn
 
 -- what a `?` gives back: the refusal that it met
-pub passed_up : {a : Answer} {r : Refusal} → IsErrAnd a (λ q. q ≡ r) → a ≡ Err r
-passed_up {a} e = let p = err_from_is_err_and a e in p.1 ∙ ap Err p.2
+pub passed_up : {A : Type 0} {a : Result A Refusal} {r : Refusal} → IsErrAnd a (λ q. q ≡ r) → a ≡ Err r
+passed_up {a = a} e = let p = err_from_is_err_and a e in p.1 ∙ ap Err p.2
 
 module _ (xs ys : List Refusal) where
   -- the first that applies is given

@@ -29,11 +29,11 @@ left_numbers l = record { outcome = record { head = head_numbers l.head; answer 
 abbrev pub numbers_left : OutcomeNumbers → List Float → List ℕ → List Float → List ℕ → LeftNumbers
 numbers_left r fs ls sf sl = record { outcome = r; lent = lending fs ls sf sl }
 
-pub left-numbers : {h : Head} (o : Result Head Refusal) {r : OutcomeNumbers} {fs : List Float} {ls : List ℕ} {sf : List Float} {sl : List ℕ} {l : Left}
+pub left-numbers : (h : Head) (o : Result Head Refusal) {r : OutcomeNumbers} {fs : List Float} {ls : List ℕ} {sf : List Float} {sl : List ℕ} {l : Left}
     → r ≡ outcome_numbers h o → left h o fs ls sf sl ≡ l → numbers_left r fs ls sf sl ≡ left_numbers l
 unfolding left_numbers outcome_numbers
-left-numbers (Ok g) p q = rw p (ap left_numbers q)
-left-numbers (Err r) p q = rw p (ap left_numbers q)
+left-numbers h (Ok g) p q = rw p (ap left_numbers q)
+left-numbers h (Err r) p q = rw p (ap left_numbers q)
 
 -- ---- creation
 
@@ -48,11 +48,11 @@ made_numbers m = record { outcome = record { head = head_numbers m.head; answer 
 abbrev pub numbers_made : OutcomeNumbers → List Float → List ℕ → MadeNumbers
 numbers_made r fs ls = record { outcome = r; floats = fs; links = ls }
 
-pub made-numbers : {h : Head} (o : Result Head Refusal) {r : OutcomeNumbers} {fs : List Float} {ls : List ℕ} {m : Made}
+pub made-numbers : (h : Head) (o : Result Head Refusal) {r : OutcomeNumbers} {fs : List Float} {ls : List ℕ} {m : Made}
     → r ≡ outcome_numbers h o → made h o fs ls ≡ m → numbers_made r fs ls ≡ made_numbers m
 unfolding made_numbers outcome_numbers
-made-numbers (Ok g) p q = rw p (ap made_numbers q)
-made-numbers (Err r) p q = rw p (ap made_numbers q)
+made-numbers h (Ok g) p q = rw p (ap made_numbers q)
+made-numbers h (Err r) p q = rw p (ap made_numbers q)
 
 -- ---- sizes
 

@@ -4,4 +4,4 @@ use Rattle.export.specs.Given.{made-numbers}
 use Rattle.export.proofs.change.cftree_create.Goals as goal
 
 pub returns : goal.returns
-returns c = rw (sym c.head_of-h.ensures) (made-numbers c.create-outcome.result c.outcome_numbers.ensures c.create-outcome.ensures)
+returns c = rw (sym c.head_of-h.ensures) (made-numbers _ c.create-outcome.result c.outcome_numbers.ensures c.create-outcome.ensures)

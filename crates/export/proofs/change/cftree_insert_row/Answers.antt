@@ -4,4 +4,4 @@ use Rattle.export.specs.Given.{left-numbers}
 use Rattle.export.proofs.change.cftree_insert_row.Goals as goal
 
 pub returns : goal.returns
-returns c = rw (sym c.head_of-h.ensures) (left-numbers c.insert_row-outcome.result c.outcome_numbers.ensures c.insert_row-outcome.ensures)
+returns c = rw (sym c.head_of-h.ensures) (left-numbers _ c.insert_row-outcome.result c.outcome_numbers.ensures c.insert_row-outcome.ensures)

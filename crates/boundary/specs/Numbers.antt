@@ -1,12 +1,10 @@
 -- Heads and answers as numbers: every number of the head, and of an answer document 01's number and values.
-use Rattle.std.specs.Prelude.{ℕ, ◌<◌, ◌≡◌, refl, get_or}
+use Rattle.std.specs.Prelude.{ℕ, ◌<◌, ◌≡◌, refl, get_or, Ok, Err}
 use Rattle.std.proofs.Common.{arith}
-use Rattle.head.specs.Refusals.{number_of, values_of}
+use Rattle.head.specs.Refusals.{number_of, values_of, Answer}
 use Rattle.head.specs.declared.Head.{Head}
 use Rattle.head.specs.declared.refusal.Refusal.{Refusal}
 use Rattle.head.specs.declared.refusal.Refusal.TheVariants.{Settings, Room, Tree, Shape, Empty, Full, Output}
-use Rattle.head.specs.declared.refusal.Answer.{Answer}
-use Rattle.head.specs.declared.refusal.Answer.TheVariants.{Accepted, Refused}
 use Rattle.boundary.specs.declared.HeadNumbers.{HeadNumbers}
 use Rattle.boundary.specs.declared.AnswerNumbers.{AnswerNumbers}
 use Rattle.head.specs.declared.Running.{Running}
@@ -61,8 +59,8 @@ unfoldable pub refusal_numbers : Refusal → AnswerNumbers
 refusal_numbers r = with_values (number_of r) (get_or (values_of r) 0 0) (get_or (values_of r) 1 0)
 
 unfoldable pub answer_numbers : Answer → AnswerNumbers
-answer_numbers Accepted = with_values 0 0 0
-answer_numbers (Refused r) = refusal_numbers r
+answer_numbers (Ok tt) = with_values 0 0 0
+answer_numbers (Err r) = refusal_numbers r
 
 some_number : (r : Refusal) → 0 < number_of r
 unfolding number_of
@@ -75,7 +73,7 @@ some_number Full = omega arith
 some_number Output = omega arith
 
 -- the number 0 says that a call was accepted
-pub zero_accepts : (a : Answer) → (answer_numbers a).number ≡ 0 → a ≡ Accepted
+pub zero_accepts : (a : Answer) → (answer_numbers a).number ≡ 0 → a ≡ Ok tt
 unfolding answer_numbers refusal_numbers
-zero_accepts Accepted e = refl
-zero_accepts (Refused r) e = let n = some_number r in absurd (omega arith)
+zero_accepts (Ok tt) e = refl
+zero_accepts (Err r) e = let n = some_number r in absurd (omega arith)

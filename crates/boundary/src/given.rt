@@ -6,6 +6,7 @@ use crate::{AnswerNumbers, HeadNumbers};
 use head::refusal::{Answer, Refusal};
 use head::{Counters, Head, Running};
 
+#[tactic(auto, unfolding(crate::specs::Numbers::head_of))]
 pub fn head_of(h: HeadNumbers) -> Head
     ensures { result ≡ head_of h }
 {
@@ -32,6 +33,7 @@ pub fn head_of(h: HeadNumbers) -> Head
     }
 }
 
+#[tactic(auto, unfolding(crate::specs::Numbers::head_numbers))]
 pub fn head_numbers(h: Head) -> HeadNumbers
     ensures { result ≡ head_numbers h }
 {
@@ -68,39 +70,25 @@ fn only(number: u32) -> AnswerNumbers
     with_values(number, 0, 0)
 }
 
-fn wide(n: usize) -> u64
-    ensures { result ≡ n }
-{
-    n as u64
-}
-
-fn wide32(n: u32) -> u64
-    ensures { result ≡ n }
-{
-    n as u64
-}
-
 // A refusal's number, and the values that come with it.
+#[tactic(auto, unfolding(crate::specs::Numbers::refusal_numbers, head::specs::Refusals::number_of, head::specs::Refusals::values_of))]
 fn refusal_numbers(r: Refusal) -> AnswerNumbers
     ensures { result ≡ refusal_numbers r }
 {
-    let number = head::refusal::number(r);
+    let number = u32::from(r);
     match r {
-        Refusal::Settings => only(number),
-        Refusal::Room => only(number),
-        Refusal::Tree(condition) => with_values(number, wide32(condition), 0),
-        Refusal::Shape(dim, length) => with_values(number, wide(dim), wide(length)),
-        Refusal::Empty => only(number),
-        Refusal::Full => only(number),
-        Refusal::Output => only(number),
+        Refusal::Tree(condition) => with_values(number, u64::from(u32::from(condition)), 0),
+        Refusal::Shape(dim, length) => with_values(number, dim as u64, length as u64),
+        Refusal::Settings | Refusal::Room | Refusal::Empty | Refusal::Full | Refusal::Output => only(number),
     }
 }
 
+#[tactic(auto, unfolding(crate::specs::Numbers::answer_numbers))]
 pub fn answer_numbers(a: Answer) -> AnswerNumbers
     ensures { result ≡ answer_numbers a }
 {
     match a {
-        Answer::Accepted => only(0),
-        Answer::Refused(r) => refusal_numbers(r),
+        Ok(()) => only(0),
+        Err(r) => refusal_numbers(r),
     }
 }

@@ -1,13 +1,11 @@
 -- What an accepted call that only reads may lean on: no refusal applies.
-use Rattle.std.specs.Prelude.{ℕ, ◌*◌, ◌≤◌, ◌<◌, ◌≡◌, List, T, length, get_or, Float}
+use Rattle.std.specs.Prelude.{ℕ, ◌*◌, ◌≤◌, ◌<◌, ◌≡◌, List, T, length, get_or, Float, Ok}
 use Rattle.std.specs.Float.{binary64}
 use Rattle.std.specs.Float.Ieee.{fits}
 use Rattle.head.specs.declared.Head.{Head}
 use Rattle.head.specs.declared.Settings.{Settings}
-use Rattle.head.specs.declared.refusal.Answer.TheVariants.{Accepted}
 use Rattle.head.specs.Heads.{settings_of}
 use Rattle.head.specs.Limits.{Sized}
-use Rattle.rules.specs.declared.Verdict.TheVariants.{Passes}
 use Rattle.rules.specs.Check.{checked, total_of}
 use Rattle.rules.specs.Tree.{Tree}
 use Rattle.rules.specs.Slices.{tree_of}
@@ -32,7 +30,7 @@ module _ (h : Head) (fs : List Float) (ls : List ℕ) where
     pub sized : Sized s
     pub floats_in_lem : Floats s h.counters (length fs)
     pub links_in : Links s h.counters (length ls)
-    pub passes : checked s (tree_of s h.counters fs ls) ≡ Passes
+    pub passes : checked s (tree_of s h.counters fs ls) ≡ Ok tt
 
   pub readable_seen : Readable h fs ls → Seen
   unfolding lent_tree
@@ -45,10 +43,10 @@ module _ (h : Head) (fs : List Float) (ls : List ℕ) where
         passes = r.passes;
       }
 
-  pub look_seen : answer_of (tree_refusals h fs ls) ≡ Accepted → Seen
+  pub look_seen : answer_of (tree_refusals h fs ls) ≡ Ok tt → Seen
   look_seen e = readable_seen (look_grants h fs ls e)
 
-  pub spread_seen : (out : List Float) → answer_of (spread_refusals h fs ls out) ≡ Accepted → Seen × (h.counters.entries * s.dim ≤ length out)
+  pub spread_seen : (out : List Float) → answer_of (spread_refusals h fs ls out) ≡ Ok tt → Seen × (h.counters.entries * s.dim ≤ length out)
   unfolding lent_tree
   spread_seen out e = let a = spread_taken h fs ls out e in (readable_seen a.readable, rw (count_entries_lem s h.counters fs ls) at a.room)
 

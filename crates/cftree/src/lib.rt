@@ -5,13 +5,3 @@
 
 pub mod change;
 pub mod look;
-
-use head::Head;
-use head::refusal::Answer;
-
-// What a call that changes the tree gives back: the head to keep, and the answer.
-#[derive(Clone, Copy)]
-pub struct Outcome {
-    pub head: Head,
-    pub answer: Answer,
-}

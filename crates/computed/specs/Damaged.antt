@@ -1,5 +1,5 @@
 -- Small trees, whole and damaged, and the lowest condition of the tree check that each fails. One channel, entries of weight 1 unless said.
-use Rattle.std.specs.Prelude.{ℕ, ◌≡◌, refl, true, false, List, [], ◌∷◌, map, replicate, Option, None, Some}
+use Rattle.std.specs.Prelude.{ℕ, ◌≡◌, refl, true, false, List, [], ◌∷◌, map, replicate, Option, None, Some, Ok, Err}
 use Rattle.std.specs.Float.Ieee.{neg}
 use Rattle.binary64.specs.Operators.{f0, f1, ◌⊘◌}
 use Rattle.binary64.specs.Whole.{whole}
@@ -8,10 +8,9 @@ use Rattle.feature.specs.declared.Summary.{Summary}
 use Rattle.feature.specs.Summaries.{blank}
 use Rattle.distance.specs.declared.Distance.TheVariants.{CentroidEuclidean}
 use Rattle.head.specs.declared.Settings.{Settings}
-use Rattle.rules.specs.declared.Verdict.{Verdict}
-use Rattle.rules.specs.declared.Verdict.TheVariants.{Passes, Fails}
+use Rattle.head.specs.declared.refusal.Condition.TheVariants.{Counts, Root, Lists, Links, Filled, Level, Weights, Merged}
 use Rattle.rules.specs.Tree.{Node, Tree, fresh}
-use Rattle.rules.specs.Check.{checked}
+use Rattle.rules.specs.Check.{checked, Verdict}
 use Rattle.rules.specs.Computes.{computes}
 
 -- branching 3, and leaf_cap and M
@@ -52,7 +51,7 @@ whole_trees : verdicts (with 2 4)
     ∷ tree (leaf 1 (0 ∷ []) None ∷ []) (ones 1) 0
     ∷ tree (two_leaves 2 (0 ∷ 2 ∷ []) 1 (1 ∷ []) 3) (ones 3) 2
     ∷ [])
-    ≡ Passes ∷ Passes ∷ Passes ∷ Passes ∷ []
+    ≡ Ok tt ∷ Ok tt ∷ Ok tt ∷ Ok tt ∷ []
 unfolding computes
 whole_trees = refl
 
@@ -63,12 +62,12 @@ counts_and_root : verdicts (with 2 1)
     ∷ tree (leaf 1 (0 ∷ []) None ∷ []) (ones 1) 1
     ∷ tree (leaf 1 (0 ∷ []) (Some 0) ∷ []) (ones 1) 0
     ∷ [])
-    ≡ Fails 1 ∷ Fails 1 ∷ Fails 2 ∷ Fails 2 ∷ []
+    ≡ Err Counts ∷ Err Counts ∷ Err Root ∷ Err Root ∷ []
 unfolding computes
 counts_and_root = refl
 
 -- 3: a list over its cap; an entry that is not there
-lists : verdicts (with 1 4) (tree (leaf 2 (0 ∷ 1 ∷ []) None ∷ []) (ones 2) 0 ∷ tree (leaf 1 (1 ∷ []) None ∷ []) (ones 1) 0 ∷ []) ≡ Fails 3 ∷ Fails 3 ∷ []
+lists : verdicts (with 1 4) (tree (leaf 2 (0 ∷ 1 ∷ []) None ∷ []) (ones 2) 0 ∷ tree (leaf 1 (1 ∷ []) None ∷ []) (ones 1) 0 ∷ []) ≡ Err Lists ∷ Err Lists ∷ []
 unfolding computes
 lists = refl
 
@@ -79,12 +78,12 @@ links : verdicts (with 2 4)
     ∷ tree (two_leaves 2 (0 ∷ 1 ∷ []) 2 (2 ∷ 0 ∷ []) 4) (ones 3) 2
     ∷ tree (leaf 1 (0 ∷ []) (Some 2) ∷ leaf 1 (1 ∷ []) (Some 0) ∷ inner 2 (0 ∷ 1 ∷ []) None ∷ []) (ones 2) 2
     ∷ [])
-    ≡ Fails 4 ∷ Fails 4 ∷ Fails 4 ∷ Fails 4 ∷ []
+    ≡ Err Links ∷ Err Links ∷ Err Links ∷ Err Links ∷ []
 unfolding computes
 links = refl
 
 -- 5: a leaf with nothing in it beside one with an entry; a lone inner root
-empty_lists : verdicts (with 2 4) (tree (two_leaves 1 (0 ∷ []) 0 [] 1) (ones 1) 2 ∷ tree (inner 0 [] None ∷ []) [] 0 ∷ []) ≡ Fails 5 ∷ Fails 5 ∷ []
+empty_lists : verdicts (with 2 4) (tree (two_leaves 1 (0 ∷ []) 0 [] 1) (ones 1) 2 ∷ tree (inner 0 [] None ∷ []) [] 0 ∷ []) ≡ Err Filled ∷ Err Filled ∷ []
 unfolding computes
 empty_lists = refl
 
@@ -94,7 +93,7 @@ levels : verdicts (with 1 4)
     ∷ tree (inner 4 (1 ∷ 2 ∷ []) None ∷ leaf 1 (0 ∷ []) (Some 0) ∷ inner 3 (3 ∷ 4 ∷ 5 ∷ []) (Some 0)
     ∷ leaf 1 (1 ∷ []) (Some 2) ∷ leaf 1 (2 ∷ []) (Some 2) ∷ leaf 1 (3 ∷ []) (Some 2) ∷ []) (ones 4) 0
     ∷ [])
-    ≡ Fails 6 ∷ Fails 6 ∷ []
+    ≡ Err Level ∷ Err Level ∷ []
 unfolding computes
 levels = refl
 
@@ -105,7 +104,7 @@ weights : verdicts (with 2 4)
     ∷ tree (leaf 2 (0 ∷ []) None ∷ []) (ones 1) 0
     ∷ tree (two_leaves 1 (0 ∷ []) 1 (1 ∷ []) 3) (ones 2) 2
     ∷ [])
-    ≡ Fails 7 ∷ Fails 7 ∷ Fails 7 ∷ Fails 7 ∷ []
+    ≡ Err Weights ∷ Err Weights ∷ Err Weights ∷ Err Weights ∷ []
 unfolding computes
 weights = refl
 
@@ -114,6 +113,6 @@ abbrev with-merged : ℕ → Tree
 with-merged n =
     record { nodes = leaf 1 (0 ∷ []) None ∷ []; entries = ones 1; root = 0; running = record { threshold = f0; rebuilds = 0; merged = n } }
 
-merged-total : verdicts (with 2 2) (with-merged 2 ∷ with-merged 1 ∷ []) ≡ Fails 8 ∷ Passes ∷ []
+merged-total : verdicts (with 2 2) (with-merged 2 ∷ with-merged 1 ∷ []) ≡ Err Merged ∷ Ok tt ∷ []
 unfolding computes
 merged-total = refl

@@ -1,21 +1,23 @@
 -- What a call over numbers gives back and leaves in the lent slices: the rules' outcome, its head and answer in numbers.
-use Rattle.std.specs.Prelude.{ℕ, ◌≡◌, true, false, cond, List, Float}
+use Rattle.std.specs.Prelude.{ℕ, ◌≡◌, true, false, cond, List, Float, Result, Ok, Err}
 use Rattle.std.proofs.Common.{ap}
 use Rattle.head.specs.Heads.{settings_of}
 use Rattle.head.specs.Limits.{allowed}
 use Rattle.head.specs.declared.Head.{Head}
 use Rattle.head.specs.declared.Settings.{Settings}
+use Rattle.head.specs.declared.refusal.Refusal.{Refusal}
 use Rattle.rules.specs.Calls.{Lent, Left, Made}
 use Rattle.refusals.specs.Lending.{lending}
 use Rattle.cftree.specs.Outcomes.{left, made}
-use Rattle.cftree.specs.declared.Outcome.{Outcome}
 use Rattle.boundary.specs.Numbers.{head_numbers, answer_numbers}
 use Rattle.export.specs.declared.OutcomeNumbers.{OutcomeNumbers}
 
 -- ---- a changing call
 
-unfoldable pub outcome_numbers : Outcome → OutcomeNumbers
-outcome_numbers o = record { head = head_numbers o.head; answer = answer_numbers o.answer }
+-- where a call is refused, the head h that was lent stands
+unfoldable pub outcome_numbers : Head → Result Head Refusal → OutcomeNumbers
+outcome_numbers h (Ok g) = record { head = head_numbers g; answer = answer_numbers (Ok tt) }
+outcome_numbers h (Err r) = record { head = head_numbers h; answer = answer_numbers (Err r) }
 
 pub record LeftNumbers : Type 0 where
   pub outcome : OutcomeNumbers
@@ -27,10 +29,11 @@ left_numbers l = record { outcome = record { head = head_numbers l.head; answer 
 abbrev pub numbers_left : OutcomeNumbers → List Float → List ℕ → List Float → List ℕ → LeftNumbers
 numbers_left r fs ls sf sl = record { outcome = r; lent = lending fs ls sf sl }
 
-pub left-numbers : {r : OutcomeNumbers} {o : Outcome} {fs : List Float} {ls : List ℕ} {sf : List Float} {sl : List ℕ} {l : Left}
-    → r ≡ outcome_numbers o → left o fs ls sf sl ≡ l → numbers_left r fs ls sf sl ≡ left_numbers l
+pub left-numbers : (h : Head) (o : Result Head Refusal) {r : OutcomeNumbers} {fs : List Float} {ls : List ℕ} {sf : List Float} {sl : List ℕ} {l : Left}
+    → r ≡ outcome_numbers h o → left h o fs ls sf sl ≡ l → numbers_left r fs ls sf sl ≡ left_numbers l
 unfolding left_numbers outcome_numbers
-left-numbers {fs = fs} {ls = ls} {sf = sf} {sl = sl} p q = rw p (ap left_numbers q)
+left-numbers h (Ok g) p q = rw p (ap left_numbers q)
+left-numbers h (Err r) p q = rw p (ap left_numbers q)
 
 -- ---- creation
 
@@ -45,10 +48,11 @@ made_numbers m = record { outcome = record { head = head_numbers m.head; answer 
 abbrev pub numbers_made : OutcomeNumbers → List Float → List ℕ → MadeNumbers
 numbers_made r fs ls = record { outcome = r; floats = fs; links = ls }
 
-pub made-numbers : {r : OutcomeNumbers} {o : Outcome} {fs : List Float} {ls : List ℕ} {m : Made}
-    → r ≡ outcome_numbers o → made o fs ls ≡ m → numbers_made r fs ls ≡ made_numbers m
+pub made-numbers : (h : Head) (o : Result Head Refusal) {r : OutcomeNumbers} {fs : List Float} {ls : List ℕ} {m : Made}
+    → r ≡ outcome_numbers h o → made h o fs ls ≡ m → numbers_made r fs ls ≡ made_numbers m
 unfolding made_numbers outcome_numbers
-made-numbers p q = rw p (ap made_numbers q)
+made-numbers h (Ok g) p q = rw p (ap made_numbers q)
+made-numbers h (Err r) p q = rw p (ap made_numbers q)
 
 -- ---- sizes
 

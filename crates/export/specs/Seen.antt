@@ -1,10 +1,11 @@
 -- What a call that only reads gives back and writes: the rules' outcome, its answer in numbers.
-use Rattle.std.specs.Prelude.{◌≡◌, List}
+use Rattle.std.specs.Prelude.{◌≡◌, List, Result}
 use Rattle.std.proofs.Common.{ap}
 use Rattle.rules.specs.Calls.{Shown, Written}
-use Rattle.head.specs.declared.refusal.Answer.{Answer}
+use Rattle.rules.specs.declared.Places.{Places}
+use Rattle.head.specs.Refusals.{Answer}
+use Rattle.head.specs.declared.refusal.Refusal.{Refusal}
 use Rattle.cftree.specs.Looks as Plain
-use Rattle.cftree.specs.declared.look.Listing.{Listing}
 use Rattle.boundary.specs.Numbers.{answer_numbers}
 use Rattle.boundary.specs.declared.AnswerNumbers.{AnswerNumbers}
 use Rattle.export.specs.declared.ListingNumbers.{ListingNumbers}
@@ -16,7 +17,7 @@ listed_numbers l =
     let p = l.places in
     record { answer = answer_numbers l.answer; entries = p.entries; first = p.first; width = p.width; means = p.means; deviations = p.deviations }
 
-abbrev pub listing_numbers : Listing → ListingNumbers
+abbrev pub listing_numbers : Result Places Refusal → ListingNumbers
 listing_numbers l = listed_numbers (Plain.listing l)
 
 -- ---- an output

@@ -22,7 +22,7 @@ pub extern "C" fn cftree_create(
 {
     let h = head_of(h);
     let outcome = change::create(h, floats, links);
-    outcome_numbers(outcome)
+    outcome_numbers(h, outcome)
 }
 
 // One row into the tree.
@@ -41,7 +41,7 @@ pub extern "C" fn cftree_insert_row(
 {
     let h = head_of(h);
     let outcome = change::insert_row(h, floats, links, scratch, numbers, row);
-    outcome_numbers(outcome)
+    outcome_numbers(h, outcome)
 }
 
 // A batch of rows into the tree, one after the other: all of them or none.
@@ -60,7 +60,7 @@ pub extern "C" fn cftree_insert_batch(
 {
     let h = head_of(h);
     let outcome = change::insert_batch(h, floats, links, scratch, numbers, rows);
-    outcome_numbers(outcome)
+    outcome_numbers(h, outcome)
 }
 
 // The entries made anew from the rows that are routed to them.
@@ -79,5 +79,5 @@ pub extern "C" fn cftree_refit(
 {
     let h = head_of(h);
     let outcome = change::refit(h, floats, links, scratch, numbers, rows);
-    outcome_numbers(outcome)
+    outcome_numbers(h, outcome)
 }

@@ -5,29 +5,46 @@ ghost use Rattle.export.specs.Seen.{listing_numbers};
 
 use crate::{ListingNumbers, OutcomeNumbers};
 use boundary::given::{answer_numbers, head_numbers};
-use cftree::Outcome;
-use cftree::look::Listing;
+use head::Head;
+use head::refusal::Refusal;
+use rules::Places;
 
-pub fn outcome_numbers(o: Outcome) -> OutcomeNumbers
-    ensures { result ≡ outcome_numbers o }
+// Where a call is refused, the head that was lent stands.
+#[tactic(auto, unfolding(crate::specs::Given::outcome_numbers))]
+pub fn outcome_numbers(h: Head, outcome: Result<Head, Refusal>) -> OutcomeNumbers
+    ensures { result ≡ outcome_numbers h outcome }
 {
-    let head = head_numbers(o.head);
-    let answer = o.answer;
-    let answer = answer_numbers(answer);
-    OutcomeNumbers { head, answer }
+    let (head, answer) = match outcome {
+        Ok(g) => (g, Ok(())),
+        Err(r) => (h, Err(r)),
+    };
+    OutcomeNumbers {
+        head: head_numbers(head),
+        answer: answer_numbers(answer),
+    }
 }
 
-pub fn listing_numbers(l: Listing) -> ListingNumbers
-    ensures { result ≡ listing_numbers l }
+// Where the listing is refused, there are no places.
+#[tactic(auto, unfolding(crate::specs::Seen::listed_numbers))]
+pub fn listing_numbers(listing: Result<Places, Refusal>) -> ListingNumbers
+    ensures { result ≡ listing_numbers listing }
 {
-    let answer = l.answer;
-    let answer = answer_numbers(answer);
-    ListingNumbers {
-        answer,
-        entries: l.places.entries as u64,
-        first: l.places.first as u64,
-        width: l.places.width as u64,
-        means: l.places.means as u64,
-        deviations: l.places.deviations as u64,
+    match listing {
+        Ok(p) => ListingNumbers {
+            answer: answer_numbers(Ok(())),
+            entries: p.entries as u64,
+            first: p.first as u64,
+            width: p.width as u64,
+            means: p.means as u64,
+            deviations: p.deviations as u64,
+        },
+        Err(r) => ListingNumbers {
+            answer: answer_numbers(Err(r)),
+            entries: 0,
+            first: 0,
+            width: 0,
+            means: 0,
+            deviations: 0,
+        },
     }
 }

@@ -1,5 +1,5 @@
 -- What the laws say of these steps, at a few trees, computed.
-use Rattle.std.specs.Prelude.{ℕ, ◌≡◌, refl, true, List, [], ◌∷◌, map, leb, length, Float, Some}
+use Rattle.std.specs.Prelude.{ℕ, ◌≡◌, refl, true, List, [], ◌∷◌, map, leb, length, Float, Some, Ok}
 use Rattle.std.specs.Float.{nan, binary64}
 use Rattle.std.specs.Float.Ieee.{of_bits}
 use Rattle.binary64.specs.Operators.{f0}
@@ -7,7 +7,6 @@ use Rattle.feature.specs.Summaries.{blank}
 use Rattle.feature.specs.declared.Feature.TheVariants.{Spherical}
 use Rattle.distance.specs.declared.Distance.TheVariants.{CentroidEuclidean}
 use Rattle.head.specs.declared.Settings.{Settings}
-use Rattle.rules.specs.declared.Verdict.TheVariants.{Passes}
 use Rattle.rules.specs.Lists.{change_at, occurs}
 use Rattle.rules.specs.Tree.{Tree, push, dist_to, fresh, adding, with_nodes, with_entries}
 use Rattle.rules.specs.Descent.{leaf_for, along_path}
@@ -164,7 +163,7 @@ unfolding computes roomy growing
 growing_fits = refl
 
 -- the check passes what the rules make
-checking_passes : checking (with 2 24) uneven ≡ Passes
+checking_passes : checking (with 2 24) uneven ≡ Ok tt
 unfolding computes checking
 checking_passes = refl
 

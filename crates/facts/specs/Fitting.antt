@@ -1,14 +1,12 @@
 -- Room, and what a passing tree lists, as tests that compute: a roomy tree passes the one, a tree that passes the check the other.
-use Rattle.std.specs.Prelude.{◌+◌, ◌≡◌, Bool, true, ◌&&◌, leb, length}
+use Rattle.std.specs.Prelude.{◌+◌, ◌≡◌, Bool, true, ◌&&◌, leb, length, Ok, Err}
 use Rattle.std.proofs.Common.{le-leb, arith}
 use denote.Floats.{is_true}
 use Rattle.head.specs.declared.Settings.{Settings}
 use Rattle.head.specs.Sizes.{node_cap, entry_cap}
-use Rattle.rules.specs.declared.Verdict.{Verdict}
-use Rattle.rules.specs.declared.Verdict.TheVariants.{Passes, Fails}
 use Rattle.rules.specs.Lists.{every, up_from}
 use Rattle.rules.specs.Tree.{Tree, node_at, cap}
-use Rattle.rules.specs.Check.{once_each, leaf_lists, checked}
+use Rattle.rules.specs.Check.{once_each, leaf_lists, checked, Verdict}
 use Rattle.laws.specs.Check.Both.{passing_linked}
 use Rattle.laws.specs.Room.Nodes.{Roomy}
 use Rattle.facts.specs.Spared.{every-below}
@@ -29,9 +27,9 @@ roomy-told s t r =
 
 -- a tree that is said to pass lists each entry once
 unfoldable pub trusted : Verdict → Tree → Bool
-trusted Passes t = once_each (length t.entries) (leaf_lists t.nodes)
-trusted (Fails condition) t = true
+trusted (Ok tt) t = once_each (length t.entries) (leaf_lists t.nodes)
+trusted (Err condition) t = true
 
-pub passing_trusted : (s : Settings) (t : Tree) → checked s t ≡ Passes → trusted Passes t ≡ true
+pub passing_trusted : (s : Settings) (t : Tree) → checked s t ≡ Ok tt → trusted (Ok tt) t ≡ true
 unfolding trusted
 passing_trusted s t e = is_true (once_each (length t.entries) (leaf_lists t.nodes)) (passing_linked s t e)

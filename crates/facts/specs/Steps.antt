@@ -1,11 +1,10 @@
 -- The steps under test, each the rule itself. Names that no step uses serve the edits.
-use Rattle.std.specs.Prelude.{ℕ, Bool, true, false, cond, List, [], ◌∷◌, ◌++◌, map, reverse, length, set, Float, Option, None, Some}
+use Rattle.std.specs.Prelude.{ℕ, Bool, true, false, cond, List, [], ◌∷◌, ◌++◌, map, reverse, length, set, Float, Option, None, Some, Ok, Err}
 use Rattle.std.specs.Float.Ieee.{lt}
 use Rattle.binary64.specs.Operators.{infinity}
 use Rattle.feature.specs.declared.Summary.{Summary}
 use Rattle.head.specs.declared.Settings.{Settings}
-use Rattle.rules.specs.declared.Verdict.{Verdict}
-use Rattle.rules.specs.declared.Verdict.TheVariants.{Passes, Fails}
+use Rattle.head.specs.declared.refusal.Condition.TheVariants.{Counts}
 use Rattle.rules.specs.declared.Pair.{Pair}
 use Rattle.rules.specs.Lists.{change_at, snoc, keep, flip, up_from}
 use Rattle.rules.specs.Tree.{Node, Tree, push, dist_to, blank_node, node_at, entry_at, with_nodes}
@@ -14,7 +13,7 @@ use Rattle.rules.specs.Insert.{absorbed, absorbed_or_begun, grown, row_item}
 use Rattle.rules.specs.Reinsert.{collected, cleared, replaced_all, reinserted}
 use Rattle.rules.specs.Refold.{refolded}
 use Rattle.rules.specs.Rebuild.{Merging, merge_one, counted, rebuilt}
-use Rattle.rules.specs.Check.{checked}
+use Rattle.rules.specs.Check.{checked, Verdict}
 use Rattle.counting.specs.Places.{place_in}
 use Rattle.promises.specs.Demand.{standing, taker, owners_in, owners_refit}
 use Rattle.laws.specs.Moves.{rebalanced_to}

@@ -1,8 +1,7 @@
 -- The whole slices after a creation: the front new, the rest as lent.
-use Rattle.std.specs.Prelude.{ℕ, ◌≡◌, List, [], ◌++◌, length, drop, Float}
+use Rattle.std.specs.Prelude.{ℕ, ◌≡◌, List, [], ◌++◌, length, drop, Float, Ok}
 use Rattle.head.specs.declared.Head.{Head}
 use Rattle.head.specs.declared.Counters.{Counters}
-use Rattle.head.specs.declared.refusal.Answer.TheVariants.{Accepted}
 use Rattle.head.specs.Heads.{settings_of, new_counters, with_counters}
 use Rattle.rules.specs.Tree.{fresh}
 use Rattle.rules.specs.Slices.{counters_of}
@@ -12,7 +11,7 @@ use Rattle.fronts.specs.Fronts.{TreeLeft}
 
 -- what creation gives back and leaves
 abbrev pub head_made : Head → List Float → List ℕ → Made
-head_made g fs ls = record { head = g; answer = Accepted; floats = fs; links = ls }
+head_made g fs ls = record { head = g; answer = Ok tt; floats = fs; links = ls }
 
 pub made-whole : (h : Head) (fs : List Float) (ls : List ℕ) {g : Head} {n : Counters} {gs : List Float} {ks : List ℕ} {i j : ℕ}
     → TreeLeft (settings_of h) (fresh h.counters.running.threshold) n gs ks → g ≡ with_counters h n → length gs ≡ i → length ks ≡ j

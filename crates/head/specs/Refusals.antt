@@ -1,7 +1,23 @@
--- The seven refusals: document 01's number and values for each.
-use Rattle.std.specs.Prelude.{ℕ, List, [], ◌∷◌}
+-- The seven refusals and the tree check's eight conditions: document 01's number and values for each.
+use Rattle.std.specs.Prelude.{ℕ, List, [], ◌∷◌, Result}
+use Rattle.head.specs.declared.refusal.Condition.{Condition}
+use Rattle.head.specs.declared.refusal.Condition.TheVariants.{Counts, Root, Lists, Links, Filled, Level, Weights, Merged}
 use Rattle.head.specs.declared.refusal.Refusal.{Refusal}
 use Rattle.head.specs.declared.refusal.Refusal.TheVariants.{Settings, Room, Tree, Shape, Empty, Full, Output}
+
+-- what a call answers
+abbrev pub Answer : Type 0
+Answer = Result (Unit {0}) Refusal
+
+unfoldable pub number_of_condition : Condition → ℕ
+number_of_condition Counts = 1
+number_of_condition Root = 2
+number_of_condition Lists = 3
+number_of_condition Links = 4
+number_of_condition Filled = 5
+number_of_condition Level = 6
+number_of_condition Weights = 7
+number_of_condition Merged = 8
 
 unfoldable pub number_of : Refusal → ℕ
 number_of Settings = 1
@@ -16,7 +32,7 @@ number_of Output = 7
 unfoldable pub values_of : Refusal → List ℕ
 values_of Settings = []
 values_of Room = []
-values_of (Tree condition) = condition ∷ []
+values_of (Tree condition) = number_of_condition condition ∷ []
 values_of (Shape dim length) = dim ∷ length ∷ []
 values_of Empty = []
 values_of Full = []

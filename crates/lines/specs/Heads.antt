@@ -1,6 +1,6 @@
 -- Line 1: the tree that it creates, and the room that a head with M at most 24 asks for.
 use Prim.Native.Nat.{ℕ, ◌+◌, ◌≤◌}
-use Rattle.std.specs.Prelude.{Bool, true, false, cond, ◌&&◌, ◌≡◌, leb, eqb, length, Float, Option, None, Some}
+use Rattle.std.specs.Prelude.{Bool, true, false, cond, ◌&&◌, ◌≡◌, leb, eqb, length, Float, Option, None, Some, Ok}
 use Rattle.std.proofs.lemmas.Option.{none-some, same_Some}
 use mathlib.Core.List.{List, [], ◌∷◌}
 use Rattle.std.proofs.Math.Path.{refl, sym, ap, subst}
@@ -10,7 +10,6 @@ use native.Mathlib.Omega.{arith}
 use borrow.Author.Tests.{leb-true, le-leb}
 use Rattle.head.specs.declared.Head.{Head}
 use Rattle.head.specs.declared.Settings.{Settings}
-use Rattle.head.specs.declared.refusal.Answer.TheVariants.{Accepted}
 use Rattle.head.specs.Heads.{settings_of, new_counters, with_counters}
 use Rattle.head.specs.Limits.{Sized, both, allowed, allowed-sized}
 use Rattle.head.specs.Sizes.{node_cap, entry_cap, floats_needed, links_needed, scratch_floats_needed, scratch_links_needed, slot_small, block_small}
@@ -127,7 +126,7 @@ module _ (h : Head) (ok : Taken h) (fs : List Float) (ks : List ℕ) (floats_roo
 
   made_serving : Serving (made_by [] h fs ks).head (made_by [] h fs ks).floats (made_by [] h fs ks).links 0
   made_serving =
-      let accepts : (created h fs ks).answer ≡ Accepted = ap (λ (o : Made). o.answer) as_made ∙ (unfold made_by in refl) in
+      let accepts : (created h fs ks).answer ≡ Ok tt = ap (λ (o : Made). o.answer) as_made ∙ (unfold made_by in refl) in
       subst (λ (o : Made). Serving o.head o.floats o.links 0) as_made (created-fresh h fs ks accepts).serving
 
   made-tree : lent_tree (made_by [] h fs ks).head (made_by [] h fs ks).floats (made_by [] h fs ks).links ≡ fresh x

@@ -1,7 +1,7 @@
 -- A row's line: only a full tree refuses a row of dim floats, and any other goes on as the rules say.
 use Prim.Native.Nat.{ℕ, suc, ◌+◌, ◌-◌, ◌≤◌, ◌<◌}
 use mathlib.Core.List.{List, [], ◌∷◌}
-use Rattle.std.specs.Prelude.{◌≡◌, refl, length, take, Float, Option, None, Some}
+use Rattle.std.specs.Prelude.{◌≡◌, refl, length, take, Float, Option, None, Some, Ok}
 use Rattle.std.proofs.Math.Path.{sym, ap, subst}
 use Rattle.std.proofs.Common.{◌∙◌, arith, add-one}
 use Rattle.std.proofs.Math.Nat.{sub-zero}
@@ -17,7 +17,6 @@ use Rattle.rules.specs.Slices.{counters_of}
 use Rattle.rules.specs.Calls.{Lent, Left, unless, row_asked, lent_tree, changed, row_shape_refusal, insert_full_refusal}
 use Rattle.rules.specs.CallLaws.{Ready, changed_settings}
 use Rattle.rules.specs.Listing.{bad_line, row_in, line_in, rows_listed}
-use Rattle.rules.specs.declared.Verdict.TheVariants.{Passes}
 use Rattle.head.specs.declared.refusal.Refusal.TheVariants.{Full}
 use Rattle.rules.specs.Lists.{rows_of}
 use Rattle.work.specs.declared.Work.TheVariants.{Insert}
@@ -41,7 +40,7 @@ use Rattle.rules.specs.Rows.{inserted, inserted_all}
 -- ---- what a grown tree gives
 
 module _ {n : ℕ} {h : Head} {fs : List Float} {ks : List ℕ} (g : Grown n h fs ks) where
-  pub grown_passes : checked (settings_of h) (lent_tree h fs ks) ≡ Passes
+  pub grown_passes : checked (settings_of h) (lent_tree h fs ks) ≡ Ok tt
   grown_passes = resting_passes (settings_of h) (lent_tree h fs ks) g.rows g.serving.rests
 
   pub grown-total : total_of (lent_tree h fs ks).entries + 2 ≡ n

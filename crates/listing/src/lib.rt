@@ -10,7 +10,7 @@ ghost use Rattle.lines.specs.Runs.{Begun, Room, Reading, printed, Reads};
 ghost use Rattle.listing.specs.Whole.{shown, listed_to};
 
 use head::Head;
-use head::refusal::{Answer, Refusal};
+use head::refusal::Refusal;
 use lines::{Run, Stage};
 use reasons::Reason;
 use reports::PAGE;
@@ -74,20 +74,12 @@ fn list_in(
     end.long
 }
 
-// What a listing gives back: the answer, and how many bytes it has written.
-#[derive(Clone, Copy)]
-pub struct Listed {
-    pub answer: Answer,
-    pub long: usize,
-}
-
-// The listing of any input, to the front of an output that has room for any listing.
-pub fn list(input: &[u8], out: &mut [u8]) -> Listed
+// The listing of any input, to the front of an output that has room for any listing: how many bytes it has written.
+pub fn list(input: &[u8], out: &mut [u8]) -> Result<usize, Refusal>
     ensures { shown result out.new ≡ listed_to input.now out.old }
 {
     if out.len() < PAGE {
-        let answer = Answer::Refused(Refusal::Output);
-        return Listed { answer, long: 0 };
+        return Err(Refusal::Output);
     }
     // Room for M 24, dim 8, branching and leaf_cap 16.
     let mut line = [0u8; 200];
@@ -95,7 +87,7 @@ pub fn list(input: &[u8], out: &mut [u8]) -> Listed
     let mut links = [0u32; 6175];
     let mut scratch = [0.0; 425];
     let mut numbers = [0u32; 75];
-    let long = list_in(
+    Ok(list_in(
         input,
         &mut line,
         &mut floats,
@@ -103,7 +95,5 @@ pub fn list(input: &[u8], out: &mut [u8]) -> Listed
         &mut scratch,
         &mut numbers,
         out,
-    );
-    let answer = Answer::Accepted;
-    Listed { answer, long }
+    ))
 }

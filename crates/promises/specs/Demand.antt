@@ -1,7 +1,7 @@
 -- Demand 3, as it is stated: what a reader has to believe of it, and nothing else.
 -- `Runs.Public.calls_keep` proves `Promise` at the end of any `Calls`, `Runs.Created.created_keeps` what a start from creation adds to it,
 -- and `Runs.Public.calls_local` proves `Local` of any row without a rebuild.
-use Rattle.std.specs.Prelude.{ℕ, zero, suc, ◌+◌, ◌/◌, ◌≤◌, ◌<◌, ◌≡◌, ◌⊎◌, Bool, true, false, not, cond, List, [], ◌∷◌, ◌++◌, map, length, get_or, replicate, ltb, eqb, Float, Option, None, Some}
+use Rattle.std.specs.Prelude.{ℕ, zero, suc, ◌+◌, ◌/◌, ◌≤◌, ◌<◌, ◌≡◌, ◌⊎◌, Bool, true, false, not, cond, List, [], ◌∷◌, ◌++◌, map, length, get_or, replicate, ltb, eqb, Float, Option, None, Some, Ok, Err}
 use Rattle.std.specs.Float.Ieee.{eq}
 use Rattle.binary64.specs.Whole.{whole, most}
 use Rattle.feature.specs.declared.Summary.{Summary}
@@ -9,10 +9,8 @@ use Rattle.feature.specs.Summaries.{blank}
 use Rattle.head.specs.declared.Head.{Head}
 use Rattle.head.specs.declared.Settings.{Settings}
 use Rattle.head.specs.declared.refusal.Refusal.{Refusal}
-use Rattle.head.specs.declared.refusal.Answer.{Answer}
-use Rattle.head.specs.declared.refusal.Answer.TheVariants.{Accepted, Refused}
+use Rattle.head.specs.Refusals.{Answer}
 use Rattle.head.specs.Heads.{settings_of}
-use Rattle.rules.specs.declared.Verdict.TheVariants.{Passes}
 use Rattle.rules.specs.Lists.{change_at, snoc, occurs, rows_of, up_from}
 use Rattle.rules.specs.Tree.{push, merge, dist_to, Tree, node_at, entry_at, row_count}
 use Rattle.rules.specs.Descent.{searched, leaf_for, along_path}
@@ -86,8 +84,8 @@ batch_rows h xs = rows_of (length xs / (settings_of h).dim) (settings_of h).dim 
 
 -- new if the call is accepted; a refused one leaves the old
 unfoldable pub after : {A : Type 0} → Answer → A → A → A
-after Accepted new old = new
-after (Refused r) new old = old
+after (Ok tt) new old = new
+after (Err r) new old = old
 
 -- the calls that change neither head nor tree, each with its outcome
 pub data Reading (h : Head) (fs : List Float) (ls : List ℕ) : Type 0 where
@@ -100,7 +98,7 @@ pub data Reading (h : Head) (fs : List Float) (ls : List ℕ) : Type 0 where
 -- with that refit's own, or since the start with those of the tree that was lent, and whose each of these rows is.
 -- Each call is given any rows and any scratch, and may be refused.
 pub data Calls (h₀ : Head) (fs₀ : List Float) (ls₀ : List ℕ) : Head → List Float → List ℕ → List Origin → List ℕ → Type 0 where
-  start : Binary64 (lent_tree h₀ fs₀ ls₀) → validated h₀ fs₀ ls₀ ≡ Accepted
+  start : Binary64 (lent_tree h₀ fs₀ ls₀) → validated h₀ fs₀ ls₀ ≡ Ok tt
       → Calls h₀ fs₀ ls₀ h₀ fs₀ ls₀ (origins_of (lent_tree h₀ fs₀ ls₀).entries) (standing 0 (lent_tree h₀ fs₀ ls₀).entries)
   row : {h : Head} (l : Lent) {ys : List Origin} {a : List ℕ} (x : List Float) (o : Left) → o ≡ row_inserted h l x
       → Calls h₀ fs₀ ls₀ h l.floats l.links ys a
@@ -114,7 +112,7 @@ pub data Calls (h₀ : Head) (fs₀ : List Float) (ls₀ : List ℕ) : Head → 
       → Calls h₀ fs₀ ls₀ h l.floats l.links ys a
       → Calls h₀ fs₀ ls₀ o.head o.lent.floats o.lent.links (after o.answer (rows_refit (batch_rows h xs) (lent_tree h l.floats l.links) ys) ys)
       (after o.answer (owners_refit (settings_of h) (greedy (settings_of h)) (batch_rows h xs) (lent_tree h l.floats l.links) a) a)
-  create_again : {h : Head} {fs : List Float} {ls : List ℕ} {ys : List Origin} {a : List ℕ} (r : Refusal) → (created h fs ls).answer ≡ Refused r
+  create_again : {h : Head} {fs : List Float} {ls : List ℕ} {ys : List Origin} {a : List ℕ} (r : Refusal) → (created h fs ls).answer ≡ Err r
       → Calls h₀ fs₀ ls₀ h fs ls ys a
       → Calls h₀ fs₀ ls₀ (created h fs ls).head (created h fs ls).floats (created h fs ls).links ys a
   read : {h : Head} {fs : List Float} {ls : List ℕ} {ys : List Origin} {a : List ℕ} → Reading h fs ls → Calls h₀ fs₀ ls₀ h fs ls ys a
@@ -169,7 +167,7 @@ pub record Promise (s : Settings) (t : Tree) (ys : List Origin) (a : List ℕ) :
   pub account : Account t a
   -- each entry is made of just the rows that the account gives it: each of them once, no other row, and merges
   pub made : (c : ℕ) → c < length t.entries → Made s ys (entry_at t c) (owns a c)
-  pub passes : checked s t ≡ Passes
+  pub passes : checked s t ≡ Ok tt
 
 -- each node's weight is the float of the count of rows beneath it
 abbrev pub NodesExact : Tree → List ℕ → Type 0

@@ -1,11 +1,14 @@
 // A case asked, and its answer printed.
 ghost use Rattle.std.specs.Prelude.{◌≡◌, length};
 
+use crate::cases::{Call, Change, Look};
+use crate::lending;
 use crate::lending::Case;
-use crate::{lending, printing};
+use crate::printing::Shown;
 use cftree::{change, look};
 use head::Head;
 use head::refusal::Answer;
+use std::fmt::InlineText;
 use std::io;
 
 // The bits of all numbers, folded: other numbers give another fold, as good as always.
@@ -17,14 +20,10 @@ fn fold_floats(start: u64, l: &[f64]) -> u64 {
     fold
 }
 
-fn wide(x: u32) -> u64 {
-    x as u64
-}
-
 fn fold_links(start: u64, l: &[u32]) -> u64 {
     let mut fold = start;
     for i in 0..l.len() {
-        fold = (fold << 1 | fold >> 63) ^ wide(l[i]);
+        fold = (fold << 1 | fold >> 63) ^ u64::from(l[i]);
     }
     fold
 }
@@ -36,9 +35,8 @@ fn fold(floats: &[f64], links: &[u32], scratch: &[f64], numbers: &[u32]) -> u64 
     )
 }
 
-// A call that changes the tree.
 fn ask_change(
-    call: u32,
+    call: Change,
     h: Head,
     floats: &mut [f64],
     links: &mut [u32],
@@ -46,24 +44,17 @@ fn ask_change(
     numbers: &mut [u32],
     rows: &[f64],
 ) -> Answer {
-    let outcome = match call {
-        0 => change::create(h, floats, links),
-        1 => change::insert_row(h, floats, links, scratch, numbers, rows),
-        2 => change::insert_batch(h, floats, links, scratch, numbers, rows),
-        _ => change::refit(h, floats, links, scratch, numbers, rows),
+    match call {
+        Change::Create => change::create(h, floats, links)?,
+        Change::InsertRow => change::insert_row(h, floats, links, scratch, numbers, rows)?,
+        Change::InsertBatch => change::insert_batch(h, floats, links, scratch, numbers, rows)?,
+        Change::Refit => change::refit(h, floats, links, scratch, numbers, rows)?,
     };
-    outcome.answer
+    Ok(())
 }
 
-// The listing's answer alone.
-fn listed(h: Head, floats: &[f64], links: &[u32]) -> Answer {
-    let listing = look::entries(h, floats, links);
-    listing.answer
-}
-
-// A call that only reads it.
 fn ask_look(
-    call: u32,
+    call: Look,
     h: Head,
     floats: &[f64],
     links: &[u32],
@@ -72,32 +63,27 @@ fn ask_look(
     spreads: &mut [f64],
 ) -> Answer {
     match call {
-        4 => look::route(h, floats, links, rows, routes),
-        5 => look::validate(h, floats, links),
-        6 => listed(h, floats, links),
-        _ => look::spread(h, floats, links, spreads),
+        Look::Route => look::route(h, floats, links, rows, routes),
+        Look::Validate => look::validate(h, floats, links),
+        Look::Entries => look::entries(h, floats, links).map(|_| ()),
+        Look::Spread => look::spread(h, floats, links, spreads),
     }
 }
 
-// '!' where what was lent to a refused call is not as it was.
-fn print_mark(rt: &impl Print, a: Answer, before: u64, after: u64) -> io::Result<()> {
-    if before == after {
-        return Ok(());
-    }
-    if !printing::is_accepted(a) {
-        return printing::print(rt, b"!");
-    }
-    Ok(())
-}
-
-// The answer with its mark, as wide as its column; nothing follows the last column.
+// The answer, with '!' where what was lent to a refused call is not as it was; nothing follows the last column.
 fn print_kept(rt: &impl Print, c: Case, a: Answer, before: u64, after: u64) -> io::Result<()> {
-    printing::print_answer(rt, a)?;
-    print_mark(rt, a, before, after)?;
-    if c.inside == 0 {
-        return printing::print_blanks(rt, a);
+    let mark = if a.is_err() && before != after {
+        "!"
+    } else {
+        ""
+    };
+    let text = InlineText::<48>::of(format_args!("{}{mark}", Shown(a)));
+    let text = text.as_str();
+    if c.inside.is_none() {
+        print!(rt; "{text:<18}")
+    } else {
+        print!(rt; "{text}")
     }
-    Ok(())
 }
 
 // The case, on a tree made for it, with scratch and outputs that are not zero.
@@ -121,25 +107,36 @@ pub fn print_case(rt: &impl Print, c: Case) -> io::Result<()> {
     scratch[0] = 2.5;
     numbers[0] = 9;
     let h = lending::lent_head(c, made);
-    if c.call < 4 {
-        print_change(
+    match c.call {
+        Call::Change(call) => print_change(
             rt,
             c,
+            call,
             h,
             &mut floats,
             &mut links,
             &mut scratch,
             &mut numbers,
             &rows,
-        )
-    } else {
-        print_look(rt, c, h, &floats, &links, &rows, &mut routes, &mut spreads)
+        ),
+        Call::Look(call) => print_look(
+            rt,
+            c,
+            call,
+            h,
+            &floats,
+            &links,
+            &rows,
+            &mut routes,
+            &mut spreads,
+        ),
     }
 }
 
 fn print_change(
     rt: &impl Print,
     c: Case,
+    call: Change,
     h: Head,
     floats: &mut [f64],
     links: &mut [u32],
@@ -155,7 +152,7 @@ fn print_change(
     let s = lending::scratch_lent(c);
     let r = lending::numbers_of_rows(c);
     let a = ask_change(
-        c.call,
+        call,
         h,
         &mut floats[0..f],
         &mut links[0..l],
@@ -170,6 +167,7 @@ fn print_change(
 fn print_look(
     rt: &impl Print,
     c: Case,
+    call: Look,
     h: Head,
     floats: &[f64],
     links: &[u32],
@@ -187,7 +185,7 @@ fn print_look(
     let o = lending::routes_lent(c);
     let p = lending::spreads_lent(c);
     let a = ask_look(
-        c.call,
+        call,
         h,
         &floats[0..f],
         &links[0..l],

@@ -3,65 +3,35 @@
 #![tactic(auto)]
 
 mod asking;
+mod cases;
 mod conditions;
 mod lending;
 mod limits;
 mod printing;
 
 use crate::asking::print_case;
+use crate::cases::{CALLS, Call, FAULTS, Fault};
 use crate::lending::Case;
-use crate::printing::print;
 use std::io;
 
-// The refusals that a call can give, as a line of the table has them; 0 where there is none. A refit's sixth would take 2^53 rows.
-fn refusal(call: u32, k: u32) -> u32 {
-    match call {
-        0 => pick(1, 2, 0, 0, 0, 0, k),
-        1 => pick(1, 2, 3, 4, 6, 0, k),
-        2 => pick(1, 2, 3, 4, 6, 0, k),
-        3 => pick(1, 2, 3, 4, 0, 0, k),
-        4 => pick(1, 2, 3, 4, 5, 7, k),
-        5 => pick(1, 2, 3, 0, 0, 0, k),
-        6 => pick(1, 2, 3, 0, 0, 0, k),
-        _ => pick(1, 2, 3, 7, 0, 0, k),
-    }
-}
-
-fn pick(a: u32, b: u32, c: u32, d: u32, e: u32, f: u32, k: u32) -> u32 {
-    match k {
-        0 => a,
-        1 => b,
-        2 => c,
-        3 => d,
-        4 => e,
-        5 => f,
-        _ => 0,
-    }
-}
-
 // One line: the call, the refusal, and the three answers.
-fn print_line(rt: &impl Print, call: u32, fault: u32, next: u32) -> io::Result<()> {
-    crate::printing::print_name(rt, call)?;
-    crate::printing::print_fault(rt, fault)?;
-    print_case(
-        rt,
-        Case {
-            call,
-            fault,
-            other: 0,
-            inside: 0,
-        },
-    )?;
-    if next == 0 {
-        print(rt, b"-                 ")?;
+fn print_line(rt: &impl Print, call: Call, fault: Fault, next: Option<Fault>) -> io::Result<()> {
+    print!(rt; "{call:<14}{fault:<12}")?;
+    let alone = Case {
+        call,
+        fault: Some(fault),
+        other: None,
+        inside: None,
+    };
+    print_case(rt, alone)?;
+    if next.is_none() {
+        print!(rt; "{:<18}", "-")?;
     } else {
         print_case(
             rt,
             Case {
-                call,
-                fault,
                 other: next,
-                inside: 0,
+                ..alone
             },
         )?;
     }
@@ -69,49 +39,44 @@ fn print_line(rt: &impl Print, call: u32, fault: u32, next: u32) -> io::Result<(
         rt,
         Case {
             call,
-            fault: 0,
-            other: 0,
-            inside: fault,
+            fault: None,
+            other: None,
+            inside: Some(fault),
         },
     )?;
-    print(rt, b"\n")
+    println!(rt; "")
 }
 
-// The lines of one call.
-fn print_call(rt: &impl Print, call: u32) -> io::Result<()> {
-    for k in 0..6 {
-        let fault = refusal(call, k);
-        if fault != 0 {
-            print_line(rt, call, fault, refusal(call, k + 1))?;
+// The lines of one call: a refusal's line waits for the next one that the call can give.
+fn print_call(rt: &impl Print, call: Call) -> io::Result<()> {
+    let mut last = None;
+    for next in FAULTS {
+        if call.gives(next) {
+            if let Some(fault) = last {
+                print_line(rt, call, fault, Some(next))?;
+            }
+            last = Some(next);
         }
+    }
+    if let Some(fault) = last {
+        print_line(rt, call, fault, None)?;
     }
     Ok(())
 }
 
-// What stands in the columns of the calls.
-fn print_heading(rt: &impl Print) -> io::Result<()> {
-    print(
-        rt,
-        b"Each call with each refusal that it can give, in order of checking: its answer to an input with that fault alone, to one\n",
-    )?;
-    print(
-        rt,
-        b"with the next fault too, and to one just inside the limit. TREE has the lowest condition that fails, SHAPE dim and a row's\n",
-    )?;
-    print(
-        rt,
-        b"length or what a batch leaves over. An ! behind an answer: the refused call changed what was lent.\n",
-    )?;
-    print(
-        rt,
-        b"call          refusal     that fault alone  the next one too  just inside\n",
-    )
-}
-
-// The lines of every call.
+// The lines of every call, under what stands in their columns.
 fn print_calls(rt: &impl Print) -> io::Result<()> {
-    print_heading(rt)?;
-    for call in 0..8 {
+    println!(rt;
+        "Each call with each refusal that it can give, in order of checking: its answer to an input with that fault alone, to one"
+    )?;
+    println!(rt;
+        "with the next fault too, and to one just inside the limit. TREE has the lowest condition that fails, SHAPE dim and a row's"
+    )?;
+    println!(rt;
+        "length or what a batch leaves over. An ! behind an answer: the refused call changed what was lent."
+    )?;
+    println!(rt; "call          refusal     that fault alone  the next one too  just inside")?;
+    for call in CALLS {
         print_call(rt, call)?;
     }
     Ok(())

@@ -1,11 +1,10 @@
 -- The refusals of a call in their parts, and what an accepted part grants: no refusal of it applies.
-use Rattle.std.specs.Prelude.{ℕ, ◌*◌, ◌/◌, ◌≤◌, ◌≡◌, length, Float}
+use Rattle.std.specs.Prelude.{ℕ, ◌*◌, ◌/◌, ◌≤◌, ◌≡◌, length, Float, Ok}
 use mathlib.Core.List.{List, ◌++◌, append_assoc}
 use Rattle.std.proofs.Common.{mul-le-mul, arith}
 use Rattle.head.specs.declared.Head.{Head}
 use Rattle.head.specs.declared.Settings.{Settings}
 use Rattle.head.specs.declared.refusal.Refusal.{Refusal}
-use Rattle.head.specs.declared.refusal.Answer.TheVariants.{Accepted}
 use Rattle.head.specs.Heads.{settings_of}
 use Rattle.head.specs.Limits.{allowed-sized}
 use Rattle.head.specs.Sizes.{slot_width, scratch_floats_needed, scratch_links_needed, scratch_small}
@@ -21,11 +20,11 @@ use Rattle.rules.specs.CallLaws.{Granted, Readable, Ready, create_roomy, tree_re
 
 module _ (h : Head) (fs : List Float) (ls : List ℕ) where
   -- 1 and 2
-  pub create_grants : answer_of (create_refusals h fs ls) ≡ Accepted → Granted h fs ls
+  pub create_grants : answer_of (create_refusals h fs ls) ≡ Ok tt → Granted h fs ls
   create_grants e = create_roomy h fs ls (accepted_none (create_refusals h fs ls) e)
 
   -- 1, 2 and 3
-  pub look_grants : answer_of (tree_refusals h fs ls) ≡ Accepted → Readable h fs ls
+  pub look_grants : answer_of (tree_refusals h fs ls) ≡ Ok tt → Readable h fs ls
   look_grants e = tree_readable h fs ls (accepted_none (tree_refusals h fs ls) e)
 
 module _ (h : Head) (l : Lent) where
@@ -42,7 +41,7 @@ module _ (h : Head) (l : Lent) where
   unfolding change_refusals
   change_parts = simp append_assoc
 
-  pub change_grants : answer_of (change_refusals h l) ≡ Accepted → Ready h l
+  pub change_grants : answer_of (change_refusals h l) ≡ Ok tt → Ready h l
   change_grants e = change_ready h l (accepted_none (change_refusals h l) e)
 
   module _ (xs : List Float) where
@@ -50,7 +49,7 @@ module _ (h : Head) (l : Lent) where
     abbrev pub before_full : List Refusal
     before_full = change_refusals h l ++ rows_asked s xs
 
-    pub rows_grants : answer_of before_full ≡ Accepted → Ready h l
+    pub rows_grants : answer_of before_full ≡ Ok tt → Ready h l
     rows_grants e = change_ready h l (none_both (change_refusals h l) _ (accepted_none before_full e)).0
 
     pub batch_parts : before_full ++ insert_full_refusal t (length xs / s.dim) ≡ batch_refusals h l xs
@@ -74,7 +73,7 @@ ready_counts h l r =
     )
 
 -- so many numbers of spread fit a usize
-pub spread_small : (h : Head) (fs : List Float) (ls : List ℕ) → answer_of (tree_refusals h fs ls) ≡ Accepted → h.counters.entries * h.dim ≤ 4369
+pub spread_small : (h : Head) (fs : List Float) (ls : List ℕ) → answer_of (tree_refusals h fs ls) ≡ Ok tt → h.counters.entries * h.dim ≤ 4369
 unfolding settings_of slot_width lent_tree
 spread_small h fs ls e =
     let s = settings_of h in

@@ -19,9 +19,9 @@ pub fn shape(dim: usize, numbers: usize) -> Answer
 {
     let rest = numbers % dim;
     if rest != 0 {
-        return Answer::Refused(Refusal::Shape(dim, rest));
+        return Err(Refusal::Shape(dim, rest));
     }
-    Answer::Accepted
+    Ok(())
 }
 
 // 6 for an insert of so many rows.
@@ -31,9 +31,9 @@ fn full(s: Settings, n: Counters, floats: &[f64], rows: usize) -> Answer
 {
     let total = weights::total(s, n, floats);
     if rows as u64 > Head::MOST_ROWS - total {
-        return Answer::Refused(Refusal::Full);
+        return Err(Refusal::Full);
     }
-    Answer::Accepted
+    Ok(())
 }
 
 // 6 for a refit by so many rows of a tree with so many entries.
@@ -41,12 +41,12 @@ fn refit_full(entries: usize, rows: usize) -> Answer
     ensures { AnyTree entries (λ t. result ≡ answer_of (refit_full_refusal t rows)) }
 {
     if entries == 0 {
-        return Answer::Accepted;
+        return Ok(());
     }
     if rows as u64 > Head::MOST_ROWS {
-        return Answer::Refused(Refusal::Full);
+        return Err(Refusal::Full);
     }
-    Answer::Accepted
+    Ok(())
 }
 
 // One row.
@@ -61,13 +61,10 @@ pub fn row(
     ensures { result ≡ answer_of (
         row_refusals h (lending floats.now links.now scratch.now numbers.now) row.now) }
 {
-    let a = lent::change(h, floats, links, scratch, numbers);
-    let Answer::Accepted = a else {
-        return a;
-    };
+    lent::change(h, floats, links, scratch, numbers)?;
     let s = h.settings();
     if row.len() != s.dim {
-        return Answer::Refused(Refusal::Shape(s.dim, row.len()));
+        return Err(Refusal::Shape(s.dim, row.len()));
     }
     full(s, h.counters, floats, 1)
 }
@@ -85,10 +82,7 @@ fn rows_asked(
         change_refusals h (lending floats.now links.now scratch.now numbers.now)
         ++ rows_asked (settings_of h) rows.now) }
 {
-    let a = lent::change(h, floats, links, scratch, numbers);
-    let Answer::Accepted = a else {
-        return a;
-    };
+    lent::change(h, floats, links, scratch, numbers)?;
     shape(h.dim, rows.len())
 }
 
@@ -104,10 +98,7 @@ pub fn batch(
     ensures { result ≡ answer_of (
         batch_refusals h (lending floats.now links.now scratch.now numbers.now) rows.now) }
 {
-    let a = rows_asked(h, floats, links, scratch, numbers, rows);
-    let Answer::Accepted = a else {
-        return a;
-    };
+    rows_asked(h, floats, links, scratch, numbers, rows)?;
     full(h.settings(), h.counters, floats, rows.len() / h.dim)
 }
 
@@ -123,9 +114,6 @@ pub fn refit(
     ensures { result ≡ answer_of (
         refit_refusals h (lending floats.now links.now scratch.now numbers.now) rows.now) }
 {
-    let a = rows_asked(h, floats, links, scratch, numbers, rows);
-    let Answer::Accepted = a else {
-        return a;
-    };
+    rows_asked(h, floats, links, scratch, numbers, rows)?;
     refit_full(h.counters.entries, rows.len() / h.dim)
 }

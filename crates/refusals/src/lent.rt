@@ -9,7 +9,6 @@ ghost use Rattle.refusals.specs.Lending.{lending};
 
 use head::refusal::{Answer, Refusal};
 use head::{Counters, Head, Settings};
-use rules::Verdict;
 use validate::validate;
 
 // 2, for two slices that are to be so long.
@@ -17,12 +16,12 @@ fn room(floats_needed: usize, links_needed: usize, floats: &[f64], links: &[u32]
     ensures { result ≡ answer_of (room_refusal floats_needed (length floats.now) ++ room_refusal links_needed (length links.now)) }
 {
     if floats.len() < floats_needed {
-        return Answer::Refused(Refusal::Room);
+        return Err(Refusal::Room);
     }
     if links.len() < links_needed {
-        return Answer::Refused(Refusal::Room);
+        return Err(Refusal::Room);
     }
-    Answer::Accepted
+    Ok(())
 }
 
 // 3.
@@ -30,10 +29,7 @@ fn tree_check(s: Settings, n: Counters, floats: &[f64], links: &[u32]) -> Answer
     requires { Sized s × (floats_needed s ≤ length floats.now) × (links_needed s ≤ length links.now) }
     ensures { result ≡ answer_of (tree_refusal (checked s (tree_of s n floats.now links.now))) }
 {
-    match validate(s, n, floats, links) {
-        Verdict::Passes => Answer::Accepted,
-        Verdict::Fails(condition) => Answer::Refused(Refusal::Tree(condition)),
-    }
+    validate(s, n, floats, links).map_err(Refusal::Tree)
 }
 
 // Creation: 1 and 2 only.
@@ -41,7 +37,7 @@ pub fn create(h: Head, floats: &[f64], links: &[u32]) -> Answer
     ensures { result ≡ answer_of (create_refusals h floats.now links.now) }
 {
     if !h.is_allowed() {
-        return Answer::Refused(Refusal::Settings);
+        return Err(Refusal::Settings);
     }
     let s = h.settings();
     room(s.floats_needed(), s.links_needed(), floats, links)
@@ -51,10 +47,7 @@ pub fn create(h: Head, floats: &[f64], links: &[u32]) -> Answer
 pub fn look(h: Head, floats: &[f64], links: &[u32]) -> Answer
     ensures { result ≡ answer_of (tree_refusals h floats.now links.now) }
 {
-    let a = create(h, floats, links);
-    let Answer::Accepted = a else {
-        return a;
-    };
+    create(h, floats, links)?;
     tree_check(h.settings(), h.counters, floats, links)
 }
 
@@ -62,19 +55,13 @@ pub fn look(h: Head, floats: &[f64], links: &[u32]) -> Answer
 pub fn change(h: Head, floats: &[f64], links: &[u32], scratch: &[f64], numbers: &[u32]) -> Answer
     ensures { result ≡ answer_of (change_refusals h (lending floats.now links.now scratch.now numbers.now)) }
 {
-    let a = create(h, floats, links);
-    let Answer::Accepted = a else {
-        return a;
-    };
+    create(h, floats, links)?;
     let s = h.settings();
-    let b = room(
+    room(
         s.scratch_floats_needed(),
         s.scratch_links_needed(),
         scratch,
         numbers,
-    );
-    let Answer::Accepted = b else {
-        return b;
-    };
+    )?;
     tree_check(s, h.counters, floats, links)
 }

@@ -12,12 +12,12 @@ fn empty(entries: usize, rows: usize) -> Answer
     ensures { AnyTree entries (λ t. result ≡ answer_of (empty_refusal t rows)) }
 {
     if rows == 0 {
-        return Answer::Accepted;
+        return Ok(());
     }
     if entries == 0 {
-        return Answer::Refused(Refusal::Empty);
+        return Err(Refusal::Empty);
     }
-    Answer::Accepted
+    Ok(())
 }
 
 // 7 for so many numbers to an output that is so long.
@@ -25,19 +25,17 @@ fn output(numbers: usize, long: usize) -> Answer
     ensures { result ≡ answer_of (output_refusal numbers long) }
 {
     if long < numbers {
-        return Answer::Refused(Refusal::Output);
+        return Err(Refusal::Output);
     }
-    Answer::Accepted
+    Ok(())
 }
 
 // 5 and 7 for so many rows.
+#[tactic(auto, using(crate::specs::Each::refused_first, crate::specs::Each::others_answer))]
 fn routes(entries: usize, rows: usize, long: usize) -> Answer
     ensures { AnyTree entries (λ t. result ≡ answer_of (empty_refusal t rows ++ output_refusal rows long)) }
 {
-    let a = empty(entries, rows);
-    let Answer::Accepted = a else {
-        return a;
-    };
+    empty(entries, rows)?;
     output(rows, long)
 }
 
@@ -45,14 +43,8 @@ fn routes(entries: usize, rows: usize, long: usize) -> Answer
 pub fn route(h: Head, floats: &[f64], links: &[u32], rows: &[f64], out: &[u32]) -> Answer
     ensures { result ≡ answer_of (route_refusals h floats.now links.now rows.now out.now) }
 {
-    let a = lent::look(h, floats, links);
-    let Answer::Accepted = a else {
-        return a;
-    };
-    let b = change::shape(h.dim, rows.len());
-    let Answer::Accepted = b else {
-        return b;
-    };
+    lent::look(h, floats, links)?;
+    change::shape(h.dim, rows.len())?;
     routes(h.counters.entries, rows.len() / h.dim, out.len())
 }
 
@@ -60,9 +52,6 @@ pub fn route(h: Head, floats: &[f64], links: &[u32], rows: &[f64], out: &[u32]) 
 pub fn spread(h: Head, floats: &[f64], links: &[u32], out: &[f64]) -> Answer
     ensures { result ≡ answer_of (spread_refusals h floats.now links.now out.now) }
 {
-    let a = lent::look(h, floats, links);
-    let Answer::Accepted = a else {
-        return a;
-    };
+    lent::look(h, floats, links)?;
     output(h.counters.entries * h.dim, out.len())
 }

@@ -6,10 +6,10 @@ ghost use Rattle.std.specs.Prelude.{◌≤◌, length};
 ghost use Rattle.head.specs.Limits.{Sized};
 ghost use Rattle.head.specs.Sizes.{floats_needed, links_needed};
 
+use head::refusal::Condition;
 use head::{Counters, Head, Settings};
 use replay::words;
 use replay::words::Word;
-use rules::Verdict;
 use std::io::Read;
 
 #[derive(Clone, Copy)]
@@ -138,10 +138,10 @@ fn read_entries(input: &mut impl Read, s: Settings, count: u64, floats: &mut [f6
 }
 
 // The lowest condition that fails, or 0.
-fn number(v: Verdict) -> u64 {
-    match v {
-        Verdict::Passes => 0,
-        Verdict::Fails(k) => k as u64,
+fn number(verdict: Result<(), Condition>) -> u64 {
+    match verdict {
+        Ok(()) => 0,
+        Err(condition) => u64::from(u32::from(condition)),
     }
 }
 

@@ -24,9 +24,9 @@ fn end_of(bytes: &[u8], from: usize) -> usize
 
 // The listing of one input.
 fn print_one(rt: &impl Print, input: &[u8], out: &mut [u8]) -> io::Result<()> {
-    let listed = listing::list(input, out);
-    let long = listed.long;
-    rt.write_all(&out[0..long])?;
+    if let Ok(long) = listing::list(input, out) {
+        rt.write_all(&out[0..long])?;
+    }
     rt.write_all(b"\n")
 }
 

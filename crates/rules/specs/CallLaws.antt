@@ -1,5 +1,5 @@
 -- What the outcomes say: a refused call changes nothing, settings, room and tree are refused before any row, and zero rows alter nothing but the zeroing.
-use Rattle.std.specs.Prelude.{ℕ, ◌+◌, ◌*◌, ◌/◌, ◌%◌, ◌≤◌, ◌<◌, Bool, ◌||◌, drop, leb, eqb, Float}
+use Rattle.std.specs.Prelude.{ℕ, ◌+◌, ◌*◌, ◌/◌, ◌%◌, ◌≤◌, ◌<◌, Bool, ◌||◌, drop, leb, eqb, Float, Ok, Err}
 use Rattle.std.proofs.Math.Path.{◌≡◌, refl, ap}
 use Rattle.std.proofs.Common.{sym, arith}
 use Rattle.std.proofs.Math.Bool.{true, false}
@@ -15,8 +15,7 @@ use Rattle.head.specs.declared.Head.{Head}
 use Rattle.head.specs.declared.Settings.{Settings}
 use Rattle.head.specs.declared.refusal.Refusal.{Refusal}
 use Rattle.head.specs.declared.refusal.Refusal.TheVariants as R
-use Rattle.head.specs.declared.refusal.Answer.{Answer}
-use Rattle.head.specs.declared.refusal.Answer.TheVariants.{Accepted, Refused}
+use Rattle.head.specs.Refusals.{Answer}
 use Rattle.rules.specs.Lists.{rows_of}
 use Rattle.rules.specs.ListLaws.{length-table}
 use Rattle.rules.specs.Tree.{Tree}
@@ -25,27 +24,26 @@ use Rattle.rules.specs.Check.{checked, total_of}
 use Rattle.rules.specs.Slices.{tree_of, counters_of}
 use Rattle.rules.specs.Calls.{unless, answer_of, settings_refusal, room_refusal, row_shape_refusal, batch_shape_refusal, empty_refusal, insert_full_refusal, refit_full_refusal, Lent, Left, lent_tree, create_refusals, tree_refusals, change_refusals, row_asked, rows_asked, batch_asked, refit_asked, route_asked, spread_asked, row_refusals, batch_refusals, refit_refusals, route_refusals, spread_refusals, changed, settle, row_inserted, batch_inserted, batch_refitted, fronted}
 use Rattle.rules.specs.RefusalLaws.{accepted_none, none_both, unless-none, tree-none, room_none, row_shape_none, batch_shape_none, empty_none, insert_full_none, refit_full_none, output_none}
-use Rattle.rules.specs.declared.Verdict.TheVariants.{Passes}
 use Rattle.rules.specs.CheckLaws.{passes_total}
 use Rattle.rules.specs.Rows.{inserted_all}
 
 -- ---- a refused call
 
 module _ (h : Head) (l : Lent) (done : Left) where
-  pub settle_answer : (rs : List Refusal) → done.answer ≡ Accepted → (settle rs h l done).answer ≡ answer_of rs
+  pub settle_answer : (rs : List Refusal) → done.answer ≡ Ok tt → (settle rs h l done).answer ≡ answer_of rs
   unfolding settle answer_of
   settle_answer [] e = e
   settle_answer (r ∷ rs) e = refl
 
   -- the head comes back and every buffer stays as lent
-  pub refused_unchanged : (rs : List Refusal) (r : Refusal) → answer_of rs ≡ Refused r → settle rs h l done ≡ record { head = h; answer = Refused r; lent = l }
+  pub refused_unchanged : (rs : List Refusal) (r : Refusal) → answer_of rs ≡ Err r → settle rs h l done ≡ record { head = h; answer = Err r; lent = l }
   unfolding settle answer_of
   refused_unchanged [] r e = let z : ◌≡◌ {A = ℕ} 0 1 = cc in absurd (omega arith)
   refused_unchanged (q ∷ rs) r e = ap (λ (a : Answer). record { head = h; answer = a; lent = l }) e
 
 -- an accepted one passed every test, and is done
-pub accepted_done : (rs : List Refusal) (h : Head) (l : Lent) (done : Left) → (settle rs h l done).answer ≡ Accepted
-    → (answer_of rs ≡ Accepted) × (settle rs h l done ≡ done)
+pub accepted_done : (rs : List Refusal) (h : Head) (l : Lent) (done : Left) → (settle rs h l done).answer ≡ Ok tt
+    → (answer_of rs ≡ Ok tt) × (settle rs h l done ≡ done)
 unfolding settle answer_of
 accepted_done [] h l done e = (refl, refl)
 accepted_done (r ∷ rs) h l done e = let z : ◌≡◌ {A = ℕ} 0 1 = cc in absurd (omega arith)
@@ -62,7 +60,7 @@ pub record Granted (h : Head) (fs : List Float) (ls : List ℕ) : Type 0 where
 pub record Readable (h : Head) (fs : List Float) (ls : List ℕ) : Type 0 where
   pub allows : allowed h ≡ true
   pub roomy : Granted h fs ls
-  pub passes : checked (settings_of h) (lent_tree h fs ls) ≡ Passes
+  pub passes : checked (settings_of h) (lent_tree h fs ls) ≡ Ok tt
 
 module _ (h : Head) (fs : List Float) (ls : List ℕ) where
   pub create_allows : create_refusals h fs ls ≡ [] → allowed h ≡ true
@@ -87,7 +85,7 @@ pub record Ready (h : Head) (l : Lent) : Type 0 where
   pub links_room : links_needed (settings_of h) ≤ length l.links
   pub scratch_floats_room : scratch_floats_needed (settings_of h) ≤ length l.scratch_floats
   pub scratch_links_room : scratch_links_needed (settings_of h) ≤ length l.scratch_links
-  pub passes : checked (settings_of h) (lent_tree h l.floats l.links) ≡ Passes
+  pub passes : checked (settings_of h) (lent_tree h l.floats l.links) ≡ Ok tt
 
 pub change_ready : (h : Head) (l : Lent) → change_refusals h l ≡ [] → Ready h l
 unfolding change_refusals
@@ -145,15 +143,15 @@ module _ (h : Head) (l : Lent) where
 -- ---- settings, room and tree before any row
 
 module _ (h : Head) (l : Lent) (r : Refusal) (rs : List Refusal) (e : change_refusals h l ≡ r ∷ rs) where
-  pub row_after-tree : (x : List Float) → (row_inserted h l x).answer ≡ Refused r
+  pub row_after-tree : (x : List Float) → (row_inserted h l x).answer ≡ Err r
   unfolding row_inserted row_refusals settle
   row_after-tree x = rw e
 
-  pub batch-after-tree : (xs : List Float) → (batch_inserted h l xs).answer ≡ Refused r
+  pub batch-after-tree : (xs : List Float) → (batch_inserted h l xs).answer ≡ Err r
   unfolding batch_inserted batch_refusals settle
   batch-after-tree xs = rw e
 
-  pub refit_after-tree : (xs : List Float) → (batch_refitted h l xs).answer ≡ Refused r
+  pub refit_after-tree : (xs : List Float) → (batch_refitted h l xs).answer ≡ Err r
   unfolding batch_refitted refit_refusals settle
   refit_after-tree xs = rw e
 
@@ -168,7 +166,7 @@ module _ (h : Head) (l : Lent) where
     pub shape : length x ≡ given.dim
     pub room : total_of (tree h l).entries + 1 ≤ most
 
-  pub row_taken : (x : List Float) → answer_of (row_refusals h l x) ≡ Accepted → RowTaken x
+  pub row_taken : (x : List Float) → answer_of (row_refusals h l x) ≡ Ok tt → RowTaken x
   unfolding row_refusals row_asked
   row_taken x e =
       let (a, b) = none_both (change_refusals h l) _ (accepted_none (row_refusals h l x) e) in
@@ -184,7 +182,7 @@ module _ (h : Head) (l : Lent) where
     pub shape : length xs % given.dim ≡ 0
     pub room : total_of (tree h l).entries + length xs / given.dim ≤ most
 
-  pub batch-taken : (xs : List Float) → answer_of (batch_refusals h l xs) ≡ Accepted → BatchTaken xs
+  pub batch-taken : (xs : List Float) → answer_of (batch_refusals h l xs) ≡ Ok tt → BatchTaken xs
   unfolding batch_refusals batch_asked
   batch-taken xs e =
       let (a, b) = none_both (change_refusals h l) _ (accepted_none (batch_refusals h l xs) e) in
@@ -196,7 +194,7 @@ module _ (h : Head) (l : Lent) where
     pub shape : length xs % given.dim ≡ 0
     pub room : 0 < length (tree h l).entries → length xs / given.dim ≤ most
 
-  pub refit_taken : (xs : List Float) → answer_of (refit_refusals h l xs) ≡ Accepted → RefitTaken xs
+  pub refit_taken : (xs : List Float) → answer_of (refit_refusals h l xs) ≡ Ok tt → RefitTaken xs
   unfolding refit_refusals refit_asked
   refit_taken xs e =
       let (a, b) = none_both (change_refusals h l) _ (accepted_none (refit_refusals h l xs) e) in
@@ -210,7 +208,7 @@ module _ (h : Head) (fs : List Float) (ls : List ℕ) where
     pub some : 0 < length xs / (settings_of h).dim → 0 < length (lent_tree h fs ls).entries
     pub room : length xs / (settings_of h).dim ≤ length out
 
-  pub route_taken : (xs : List Float) (out : List ℕ) → answer_of (route_refusals h fs ls xs out) ≡ Accepted → RouteTaken xs out
+  pub route_taken : (xs : List Float) (out : List ℕ) → answer_of (route_refusals h fs ls xs out) ≡ Ok tt → RouteTaken xs out
   unfolding route_refusals route_asked
   route_taken xs out e =
       let n = length xs / (settings_of h).dim in
@@ -223,7 +221,7 @@ module _ (h : Head) (fs : List Float) (ls : List ℕ) where
     pub readable : Readable h fs ls
     pub room : length (lent_tree h fs ls).entries * (settings_of h).dim ≤ length out
 
-  pub spread_taken : (out : List Float) → answer_of (spread_refusals h fs ls out) ≡ Accepted → SpreadTaken out
+  pub spread_taken : (out : List Float) → answer_of (spread_refusals h fs ls out) ≡ Ok tt → SpreadTaken out
   unfolding spread_refusals spread_asked
   spread_taken out e =
       let (a, b) = none_both (tree_refusals h fs ls) _ (accepted_none (spread_refusals h fs ls out) e) in

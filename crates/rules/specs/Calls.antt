@@ -1,5 +1,5 @@
 -- The public calls: which refusal each gives, and what it leaves of head, answer and every lent slice.
-use Rattle.std.specs.Prelude.{ℕ, ◌+◌, ◌*◌, ◌/◌, ◌%◌, Bool, true, false, ◌||◌, List, [], ◌∷◌, ◌++◌, map, length, drop, replicate, leb, eqb, Float}
+use Rattle.std.specs.Prelude.{ℕ, ◌+◌, ◌*◌, ◌/◌, ◌%◌, Bool, true, false, ◌||◌, List, [], ◌∷◌, ◌++◌, map, length, drop, replicate, leb, eqb, Float, Ok, Err}
 use Rattle.binary64.specs.Operators.{f0}
 use Rattle.binary64.specs.Whole.{most}
 use Rattle.feature.specs.Summaries.{slots_of}
@@ -10,15 +10,12 @@ use Rattle.head.specs.declared.Head.{Head}
 use Rattle.head.specs.declared.Settings.{Settings}
 use Rattle.head.specs.declared.refusal.Refusal.{Refusal}
 use Rattle.head.specs.declared.refusal.Refusal.TheVariants as R
-use Rattle.head.specs.declared.refusal.Answer.{Answer}
-use Rattle.head.specs.declared.refusal.Answer.TheVariants.{Accepted, Refused}
+use Rattle.head.specs.Refusals.{Answer}
 use Rattle.rules.specs.Lists.{concat, rows_of}
 use Rattle.rules.specs.Tree.{Tree, fresh}
 use Rattle.rules.specs.Refit.{refitted}
-use Rattle.rules.specs.Check.{checked, total_of}
+use Rattle.rules.specs.Check.{checked, total_of, Verdict}
 use Rattle.rules.specs.Slices.{tree_of, counters_of, floats_of, links_of}
-use Rattle.rules.specs.declared.Verdict.{Verdict}
-use Rattle.rules.specs.declared.Verdict.TheVariants.{Passes, Fails}
 use Rattle.rules.specs.declared.Places.{Places}
 use Rattle.rules.specs.Route.{greedy}
 use Rattle.rules.specs.Spread.{spread_of}
@@ -31,8 +28,8 @@ unless true r = []
 unless false r = r ∷ []
 
 unfoldable pub answer_of : List Refusal → Answer
-answer_of [] = Accepted
-answer_of (r ∷ rs) = Refused r
+answer_of [] = Ok tt
+answer_of (r ∷ rs) = Err r
 
 -- 1: a size, choice or threshold in the head is outside its limits
 unfoldable pub settings_refusal : Head → List Refusal
@@ -44,8 +41,8 @@ room_refusal needed n = unless (leb needed n) R.Room
 
 -- 3: the tree check fails
 unfoldable pub tree_refusal : Verdict → List Refusal
-tree_refusal Passes = []
-tree_refusal (Fails condition) = R.Tree condition ∷ []
+tree_refusal (Ok tt) = []
+tree_refusal (Err condition) = R.Tree condition ∷ []
 
 -- 4: one row whose length is not dim; a batch whose length is no multiple of dim
 unfoldable pub row_shape_refusal : ℕ → ℕ → List Refusal
@@ -178,7 +175,7 @@ changed h l t =
     let s = settings_of h in
     record {
       head = with_counters h (counters_of t);
-      answer = Accepted;
+      answer = Ok tt;
       lent = record {
         floats = fronted (floats_of s t) l.floats;
         links = fronted (links_of s t) l.links;
@@ -190,7 +187,7 @@ changed h l t =
 -- refused: the head comes back and every buffer stays as lent
 unfoldable pub settle : List Refusal → Head → Lent → Left → Left
 settle [] h l done = done
-settle (r ∷ rs) h l done = record { head = h; answer = Refused r; lent = l }
+settle (r ∷ rs) h l done = record { head = h; answer = Err r; lent = l }
 
 -- ---- creation
 
@@ -206,11 +203,11 @@ made_by [] h fs ls =
     let threshold = h.counters.running.threshold in
     record {
       head = with_counters h (new_counters threshold);
-      answer = Accepted;
+      answer = Ok tt;
       floats = fronted (floats_of s (fresh threshold)) fs;
       links = fronted (links_of s (fresh threshold)) ls;
     }
-made_by (r ∷ rs) h fs ls = record { head = h; answer = Refused r; floats = fs; links = ls }
+made_by (r ∷ rs) h fs ls = record { head = h; answer = Err r; floats = fs; links = ls }
 
 unfoldable pub created : Head → List Float → List ℕ → Made
 created h fs ls = made_by (create_refusals h fs ls) h fs ls
@@ -245,8 +242,8 @@ pub record Written (A : Type 0) : Type 0 where
 
 module _ {A : Type 0} where
   unfoldable pub write : List Refusal → List A → List A → Written A
-  write [] new old = record { answer = Accepted; output = fronted new old }
-  write (r ∷ rs) new old = record { answer = Refused r; output = old }
+  write [] new old = record { answer = Ok tt; output = fronted new old }
+  write (r ∷ rs) new old = record { answer = Err r; output = old }
 
 -- one entry number a row to the front of the output
 unfoldable pub routed : Head → List Float → List ℕ → List Float → List ℕ → Written ℕ
@@ -273,10 +270,10 @@ unfoldable pub shown_by : List Refusal → Head → Shown
 shown_by [] h =
     let s = settings_of h in
     record {
-      answer = Accepted;
+      answer = Ok tt;
       places = record { entries = h.counters.entries; first = node_cap s * slot_width s; width = slot_width s; means = s.dim; deviations = slots_of s.feature s.dim };
     }
-shown_by (r ∷ rs) h = record { answer = Refused r; places = record { entries = 0; first = 0; width = 0; means = 0; deviations = 0 } }
+shown_by (r ∷ rs) h = record { answer = Err r; places = record { entries = 0; first = 0; width = 0; means = 0; deviations = 0 } }
 
 unfoldable pub entries_shown : Head → List Float → List ℕ → Shown
 entries_shown h fs ls = shown_by (tree_refusals h fs ls) h

@@ -1,17 +1,17 @@
 -- The tree check: eight conditions, and the lowest that fails.
-use Rattle.std.specs.Prelude.{ℕ, zero, suc, ◌+◌, ◌<◌, Bool, true, false, cond, ◌||◌, ◌&&◌, not, List, [], ◌∷◌, ◌++◌, map, length, T, leb, ltb, eqb, Option, None, Some}
+use Rattle.std.specs.Prelude.{ℕ, zero, suc, ◌+◌, ◌<◌, Bool, true, false, cond, ◌||◌, ◌&&◌, not, List, [], ◌∷◌, ◌++◌, map, length, T, leb, ltb, eqb, Option, None, Some, Result, Ok, Err}
 use Rattle.std.specs.Float.Ieee.{eq, fits}
 use Rattle.std.specs.Float.{binary64}
 use Rattle.binary64.specs.Whole.{whole, most}
 use Rattle.binary64.specs.Counts.{is_count}
 use Rattle.feature.specs.declared.Summary.{Summary}
 use Rattle.head.specs.declared.Settings.{Settings}
+use Rattle.head.specs.declared.refusal.Condition.{Condition}
+use Rattle.head.specs.declared.refusal.Condition.TheVariants.{Counts, Root, Lists, Links, Filled, Level, Weights, Merged}
 use Rattle.head.specs.Sizes.{node_cap}
 use Rattle.rules.specs.Lists.{every, concat, up_from, occurs}
 use Rattle.rules.specs.Tree.{Node, Tree, node_at, entry_at, cap, row_count}
 use Rattle.rules.specs.Reinsert.{collected}
-use Rattle.rules.specs.declared.Verdict.{Verdict}
-use Rattle.rules.specs.declared.Verdict.TheVariants.{Passes, Fails}
 use Rattle.head.specs.declared.Running.{Running}
 
 -- 1. Node count 1 to N, entry count 0 to M.
@@ -112,26 +112,30 @@ pub record Binary64 (t : Tree) : Type 0 where
 
 -- ---- the lowest failing condition
 
-unfoldable pub lowest : ℕ → List Bool → Verdict
-lowest i [] = Passes
-lowest i (true ∷ bs) = lowest (suc i) bs
-lowest i (false ∷ bs) = Fails i
+-- that the tree passes, or the lowest condition that fails
+abbrev pub Verdict : Type 0
+Verdict = Result (Unit {0}) Condition
+
+unfoldable pub lowest : List (Condition × Bool) → Verdict
+lowest [] = Ok tt
+lowest ((c, true) ∷ cs) = lowest cs
+lowest ((c, false) ∷ cs) = Err c
 
 -- the conditions, a line a number
-unfoldable pub conditions : Settings → Tree → List Bool
+unfoldable pub conditions : Settings → Tree → List (Condition × Bool)
 conditions s t =
-    sized s t
-    ∷ rooted t
-    ∷ every (list_fits s t) t.nodes
-    ∷ linked t
-    ∷ filled t
-    ∷ level t
-    ∷ weighed t
-    ∷ merged_below s t.running
+    (Counts, sized s t)
+    ∷ (Root, rooted t)
+    ∷ (Lists, every (list_fits s t) t.nodes)
+    ∷ (Links, linked t)
+    ∷ (Filled, filled t)
+    ∷ (Level, level t)
+    ∷ (Weights, weighed t)
+    ∷ (Merged, merged_below s t.running)
     ∷ []
 
 unfoldable pub checked : Settings → Tree → Verdict
-checked s t = lowest 1 (conditions s t)
+checked s t = lowest (conditions s t)
 
 -- the same by name: what a tree that passes has
 

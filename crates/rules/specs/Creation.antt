@@ -1,12 +1,11 @@
 -- What creation leaves: the fresh tree's counters, its words, zeros past its counts, and the surplus as lent.
-use Rattle.std.specs.Prelude.{ℕ, zero, suc, ◌-◌, ◌≤◌, refl, List, [], ◌∷◌, length, get_or, Float, Some}
+use Rattle.std.specs.Prelude.{ℕ, zero, suc, ◌-◌, ◌≤◌, refl, List, [], ◌∷◌, length, get_or, Float, Some, Ok}
 use Rattle.std.proofs.Math.Path.{◌≡◌, ap}
 use native.Mathlib.Omega.{arith}
 use Rattle.feature.specs.Shape.{Shaped, blank_shaped}
 use Rattle.head.specs.declared.Head.{Head}
 use Rattle.head.specs.declared.Settings.{Settings}
 use Rattle.head.specs.declared.refusal.Refusal.{Refusal}
-use Rattle.head.specs.declared.refusal.Answer.TheVariants.{Accepted}
 use Rattle.head.specs.Heads.{settings_of, new_counters, with_counters}
 use Rattle.head.specs.Limits.{Sized}
 use Rattle.head.specs.Sizes.{block_width, nodes_some}
@@ -43,13 +42,13 @@ fresh_fits s threshold =
     shaped (suc i) e = absurd (omega arith)
 
 -- an accepted creation passed every test, and is done
-pub made-done : (rs : List Refusal) (h : Head) (fs : List Float) (ls : List ℕ) → (made_by rs h fs ls).answer ≡ Accepted
+pub made-done : (rs : List Refusal) (h : Head) (fs : List Float) (ls : List ℕ) → (made_by rs h fs ls).answer ≡ Ok tt
     → (rs ≡ []) × (made_by rs h fs ls ≡ made_by [] h fs ls)
 unfolding made_by
 made-done [] h fs ls e = (refl, refl)
 made-done (r ∷ rs) h fs ls e = let z : ◌≡◌ {A = ℕ} 0 1 = cc in absurd (omega arith)
 
-module _ (h : Head) (fs : List Float) (ls : List ℕ) (e : (created h fs ls).answer ≡ Accepted) where
+module _ (h : Head) (fs : List Float) (ls : List ℕ) (e : (created h fs ls).answer ≡ Ok tt) where
   abbrev made-tree : Tree
   made-tree = fresh h.counters.running.threshold
 

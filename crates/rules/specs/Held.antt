@@ -1,5 +1,5 @@
 -- The tree that lent slices hold, part by part; if it passes the check, it fits its slots.
-use Rattle.std.specs.Prelude.{ℕ, zero, suc, ◌+◌, ◌-◌, ◌≤◌, ◌<◌, ◌≡◌, refl, Bool, true, false, cond, ◌&&◌, List, [], ◌∷◌, eqb, length, get_or, replicate, Float, None, Some}
+use Rattle.std.specs.Prelude.{ℕ, zero, suc, ◌+◌, ◌-◌, ◌≤◌, ◌<◌, ◌≡◌, refl, Bool, true, false, cond, ◌&&◌, List, [], ◌∷◌, eqb, length, get_or, replicate, Float, None, Some, Ok}
 use Rattle.std.proofs.Common.{sym, ap, ◌∙◌, true≢false, arith}
 use borrow.Author.Tests.{leb-true, eq-eqb}
 use Rattle.std.proofs.Math.Dec.{leb}
@@ -21,7 +21,6 @@ use Rattle.rules.specs.Check.{sized, list_fits, checked}
 use Rattle.rules.specs.Slices.{eight, summary_in, no_parent, parent_in, parent_out, node_in, slot_at, block_at, tree_of}
 use Rattle.rules.specs.ListLaws.{length-table, table_at}
 use Rattle.rules.specs.Stored.{Fits, slots_in_lem}
-use Rattle.rules.specs.declared.Verdict.TheVariants.{Passes}
 use Rattle.rules.specs.CheckLaws.{passing_of}
 
 -- ---- what passing the check says of sizes
@@ -32,7 +31,7 @@ every-at {A = A} f [] i d e h = elim h [ ]
 every-at f (x ∷ l) zero d e h = (both (f x) (every f l) e).0
 every-at f (x ∷ l) (suc i) d e h = every-at f l i d (both (f x) (every f l) e).1 (omega arith)
 
-module _ (s : Settings) (t : Tree) (ok : checked s t ≡ Passes) where
+module _ (s : Settings) (t : Tree) (ok : checked s t ≡ Ok tt) where
   counts_few : (length t.nodes ≤ node_cap s) × (length t.entries ≤ s.max_leaves)
   unfolding sized
   counts_few =
@@ -98,7 +97,7 @@ module _ (s : Settings) (c : Counters) (fs : List Float) (ls : List ℕ) where
   in_entries h = rw (length-table (λ i. summary_in s (slot_at s fs (node_cap s + i))) c.entries) at h
 
   -- a lent tree that passes the check fits its slots
-  pub held_fits : Sized s → checked s held ≡ Passes → Fits s held
+  pub held_fits : Sized s → checked s held ≡ Ok tt → Fits s held
   unfolding entry_cap node_in
   held_fits z ok =
       let (n, e) = counts_few s held ok in

@@ -1,6 +1,6 @@
 -- A lent tree stored again: every word below the counts is as lent. So zero rows alter nothing but the zeroing.
 use Prim.Native.Nat.{ℕ, zero, suc, ◌+◌, ◌-◌, ◌*◌, ◌/◌, ◌%◌, ◌≤◌, ◌<◌, min}
-use Rattle.std.specs.Prelude.{◌≡◌, Bool, true, cond, List, [], ◌++◌, ◌⊎◌, eqb, take, drop, replicate, Float, None, Some}
+use Rattle.std.specs.Prelude.{◌≡◌, Bool, true, cond, List, [], ◌++◌, ◌⊎◌, eqb, take, drop, replicate, Float, None, Some, Ok}
 use Rattle.std.proofs.Math.Path.{refl, ap}
 use Rattle.std.proofs.Common.{sym, ◌∙◌, inl, inr}
 use Rattle.std.proofs.Math.Bool.{false}
@@ -18,7 +18,6 @@ use Rattle.feature.specs.Summaries.{slots_of}
 use Rattle.head.specs.declared.Head.{Head}
 use Rattle.head.specs.declared.Settings.{Settings}
 use Rattle.head.specs.declared.refusal.Refusal.{Refusal}
-use Rattle.head.specs.declared.refusal.Answer.TheVariants.{Accepted}
 use Rattle.head.specs.Heads.{settings_of}
 use Rattle.head.specs.Limits.{Sized, allowed-sized}
 use Rattle.head.specs.Sizes.{node_cap, slot_width, block_width, links_needed}
@@ -221,7 +220,7 @@ module _ (h : Head) (l : Lent) where
   AltersNothing o = (o.head ≡ h) × Kept (settings_of h) (lent_tree h l.floats l.links) l o.lent × Clears h l o
 
   -- an accepted call whose rule gives the lent tree
-  idle : (more : List Refusal) (u : Tree) → u ≡ lent_tree h l.floats l.links → (settle (change_refusals h l ++ more) h l (changed h l u)).answer ≡ Accepted
+  idle : (more : List Refusal) (u : Tree) → u ≡ lent_tree h l.floats l.links → (settle (change_refusals h l ++ more) h l (changed h l u)).answer ≡ Ok tt
       → AltersNothing (settle (change_refusals h l ++ more) h l (changed h l u))
   idle more u same e =
       let (passed, is) = accepted_done (change_refusals h l ++ more) h l (changed h l u) e in
@@ -231,12 +230,12 @@ module _ (h : Head) (l : Lent) where
       again : (changed h l (lent_tree h l.floats l.links)).head ≡ h
       again = unfold changed in head-again h l.floats l.links
 
-  pub zero_rows_alter_nothing : (batch_inserted h l []).answer ≡ Accepted → AltersNothing (batch_inserted h l [])
+  pub zero_rows_alter_nothing : (batch_inserted h l []).answer ≡ Ok tt → AltersNothing (batch_inserted h l [])
   unfolding batch_inserted batch_refusals
   zero_rows_alter_nothing e = idle _ _ (no_rows (settings_of h) _) e
 
   -- a refit with no rows, or with no entries, however many rows
   pub idle_refit_alters_nothing : (xs : List Float) → (length xs / (settings_of h).dim ≡ 0) ⊎ (length (lent_tree h l.floats l.links).entries ≡ 0)
-      → (batch_refitted h l xs).answer ≡ Accepted → AltersNothing (batch_refitted h l xs)
+      → (batch_refitted h l xs).answer ≡ Ok tt → AltersNothing (batch_refitted h l xs)
   unfolding batch_refitted refit_refusals
   idle_refit_alters_nothing xs w e = idle _ _ (refit_idle (settings_of h) (length xs / (settings_of h).dim) xs _ w) e

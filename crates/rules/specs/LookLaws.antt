@@ -4,7 +4,7 @@ use Rattle.std.proofs.Math.Path.{◌≡◌, refl, sym, ap}
 use Rattle.std.proofs.Common.{◌∙◌, add-mul, length-take-le, get_or-take}
 use mathlib.Core.List.{List, [], ◌∷◌, ◌++◌, map}
 use native.Mathlib.Omega.{arith}
-use Rattle.std.specs.Prelude.{length, get_or, take, replicate, Float}
+use Rattle.std.specs.Prelude.{length, get_or, take, replicate, Float, Ok, Err}
 use Rattle.std.proofs.Math.ListN.{drop, length-map}
 use Rattle.std.proofs.lemmas.List.{length-replicate, get_or-replicate}
 use Rattle.std.proofs.Math.Seq.{get_or-drop}
@@ -24,7 +24,6 @@ use Rattle.head.specs.Sizes.{node_cap, slot_width}
 use Rattle.head.specs.declared.Head.{Head}
 use Rattle.head.specs.declared.Settings.{Settings}
 use Rattle.head.specs.declared.refusal.Refusal.{Refusal}
-use Rattle.head.specs.declared.refusal.Answer.TheVariants.{Accepted, Refused}
 use Rattle.rules.specs.Lists.{concat, rows_of}
 use Rattle.rules.specs.Tree.{Tree, entry_at}
 use Rattle.rules.specs.Slices.{eight, summary_in, slot_at, tree_of}
@@ -43,12 +42,12 @@ use Rattle.rules.specs.Spread.{spread_of}
 
 module _ {A : Type 0} where
   -- refused, it stays as lent
-  write_refused : (rs : List Refusal) (new old : List A) (r : Refusal) → (write rs new old).answer ≡ Refused r → (write rs new old).output ≡ old
+  write_refused : (rs : List Refusal) (new old : List A) (r : Refusal) → (write rs new old).answer ≡ Err r → (write rs new old).output ≡ old
   unfolding write
   write_refused [] new old r e = let z : ◌≡◌ {A = ℕ} 0 1 = cc in absurd (omega arith)
   write_refused (q ∷ rs) new old r e = refl
 
-  write_accepted : (rs : List Refusal) (new old : List A) → (write rs new old).answer ≡ Accepted → (rs ≡ []) × ((write rs new old).output ≡ fronted new old)
+  write_accepted : (rs : List Refusal) (new old : List A) → (write rs new old).answer ≡ Ok tt → (rs ≡ []) × ((write rs new old).output ≡ fronted new old)
   unfolding write
   write_accepted [] new old e = (refl, refl)
   write_accepted (q ∷ rs) new old e = let z : ◌≡◌ {A = ℕ} 0 1 = cc in absurd (omega arith)
@@ -81,11 +80,11 @@ module _ (h : Head) (fs : List Float) (ls : List ℕ) where
 
   module _ (xs : List Float) (out : List ℕ) where
     -- a refused routing leaves its output as lent
-    pub route_refused : (r : Refusal) → (routed h fs ls xs out).answer ≡ Refused r → (routed h fs ls xs out).output ≡ out
+    pub route_refused : (r : Refusal) → (routed h fs ls xs out).answer ≡ Err r → (routed h fs ls xs out).output ≡ out
     unfolding routed
     route_refused r e = write_refused _ _ out r e
 
-    module _ (e : (routed h fs ls xs out).answer ≡ Accepted) where
+    module _ (e : (routed h fs ls xs out).answer ≡ Ok tt) where
       route_output : (routed h fs ls xs out).output ≡ fronted (map (greedy s t) (rows_of (length xs / s.dim) s.dim xs)) out
       unfolding routed
       route_output = (write_accepted _ _ out e).1
@@ -112,11 +111,11 @@ module _ (h : Head) (fs : List Float) (ls : List ℕ) where
 
   module _ (out : List Float) where
     -- a refused spread leaves its output as lent
-    pub spread_refused : (r : Refusal) → (spread_written h fs ls out).answer ≡ Refused r → (spread_written h fs ls out).output ≡ out
+    pub spread_refused : (r : Refusal) → (spread_written h fs ls out).answer ≡ Err r → (spread_written h fs ls out).output ≡ out
     unfolding spread_written
     spread_refused r e = write_refused _ _ out r e
 
-    module _ (e : (spread_written h fs ls out).answer ≡ Accepted) where
+    module _ (e : (spread_written h fs ls out).answer ≡ Ok tt) where
       abbrev numbers : List (List Float)
       numbers = map (spread_of s.feature s.dim) t.entries
 
@@ -172,7 +171,7 @@ module _ (h : Head) (fs : List Float) (ls : List ℕ) where
 
   -- ---- the listing: where the entries stand in the floats
 
-  module _ (e : (entries_shown h fs ls).answer ≡ Accepted) where
+  module _ (e : (entries_shown h fs ls).answer ≡ Ok tt) where
     abbrev places : Places
     places = (entries_shown h fs ls).places
 
@@ -180,7 +179,7 @@ module _ (h : Head) (fs : List Float) (ls : List ℕ) where
     unfolding entries_shown
     none_refused = go (tree_refusals h fs ls) e
       where
-        go : (rs : List Refusal) → (shown_by rs h).answer ≡ Accepted → rs ≡ []
+        go : (rs : List Refusal) → (shown_by rs h).answer ≡ Ok tt → rs ≡ []
         go [] e = refl
         go (r ∷ rs) e = let z : ◌≡◌ {A = ℕ} 0 1 = unfold shown_by in cc in absurd (omega arith)
 

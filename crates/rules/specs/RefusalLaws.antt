@@ -1,5 +1,5 @@
 -- Refusals in their order: the first that applies is given, and none applies exactly where every test passes.
-use Rattle.std.specs.Prelude.{ℕ, ◌+◌, ◌%◌, ◌≤◌, ◌<◌, Bool, false, cond, ◌||◌, List, [], ◌∷◌, ◌++◌, length, eqb}
+use Rattle.std.specs.Prelude.{ℕ, ◌+◌, ◌%◌, ◌≤◌, ◌<◌, Bool, false, cond, ◌||◌, List, [], ◌∷◌, ◌++◌, length, eqb, Ok, Err}
 use Rattle.std.proofs.Math.Path.{◌≡◌, refl}
 use Rattle.std.proofs.Math.Bool.{true}
 use Rattle.std.proofs.Common.{arith}
@@ -8,23 +8,20 @@ use Rattle.std.proofs.Math.Dec.{leb}
 use Rattle.binary64.specs.Whole.{most}
 use Rattle.head.specs.declared.refusal.Refusal.{Refusal}
 use Rattle.head.specs.declared.refusal.Refusal.TheVariants as R
-use Rattle.head.specs.declared.refusal.Answer.TheVariants.{Accepted, Refused}
 use Rattle.rules.specs.Tree.{Tree}
-use Rattle.rules.specs.Check.{total_of}
+use Rattle.rules.specs.Check.{total_of, Verdict}
 use Rattle.rules.specs.Calls.{unless, answer_of, room_refusal, tree_refusal, row_shape_refusal, batch_shape_refusal, empty_refusal, insert_full_refusal, refit_full_refusal, output_refusal}
-use Rattle.rules.specs.declared.Verdict.{Verdict}
-use Rattle.rules.specs.declared.Verdict.TheVariants.{Passes, Fails}
 
 -- ---- the first that applies
 
 -- a test that fails is answered before the later ones, and one that passes leaves the answer to them
-pub first_given : (b : Bool) (r : Refusal) (rs : List Refusal) → answer_of (unless b r ++ rs) ≡ cond b (answer_of rs) (Refused r)
+pub first_given : (b : Bool) (r : Refusal) (rs : List Refusal) → answer_of (unless b r ++ rs) ≡ cond b (answer_of rs) (Err r)
 unfolding answer_of unless
 first_given true r rs = refl
 first_given false r rs = refl
 
 module _ (b : Bool) (r : Refusal) (ys : List Refusal) where
-  pub unless_refused : b ≡ false → Refused r ≡ answer_of (unless b r ++ ys)
+  pub unless_refused : b ≡ false → Err r ≡ answer_of (unless b r ++ ys)
   unfolding unless answer_of
   unless_refused e = rw e
 
@@ -34,29 +31,29 @@ module _ (b : Bool) (r : Refusal) (ys : List Refusal) where
 
 -- the last test
 module _ (b : Bool) (r : Refusal) where
-  pub only_refused : b ≡ false → Refused r ≡ answer_of (unless b r)
+  pub only_refused : b ≡ false → Err r ≡ answer_of (unless b r)
   unfolding unless answer_of
   only_refused e = rw e
 
-  pub only_passed : b ≡ true → Accepted ≡ answer_of (unless b r)
+  pub only_passed : b ≡ true → Ok tt ≡ answer_of (unless b r)
   unfolding unless answer_of
   only_passed e = rw e
 
-pub accepted_none : (xs : List Refusal) → answer_of xs ≡ Accepted → xs ≡ []
+pub accepted_none : (xs : List Refusal) → answer_of xs ≡ Ok tt → xs ≡ []
 unfolding answer_of
 accepted_none [] e = refl
 accepted_none (x ∷ xs) e = let z : ◌≡◌ {A = ℕ} 0 1 = cc in absurd (omega arith)
 
 module _ (xs ys : List Refusal) where
   -- where none of the first applies, the answer is the others'
-  pub answer_then : answer_of xs ≡ Accepted → answer_of ys ≡ answer_of (xs ++ ys)
+  pub answer_then : answer_of xs ≡ Ok tt → answer_of ys ≡ answer_of (xs ++ ys)
   answer_then e = rw (accepted_none xs e)
 
   -- where one does, it is given
-  pub answer_first : {r : Refusal} → answer_of xs ≡ Refused r → answer_of xs ≡ answer_of (xs ++ ys)
+  pub answer_first : {r : Refusal} → answer_of xs ≡ Err r → answer_of xs ≡ answer_of (xs ++ ys)
   answer_first {r} e = go xs e
     where
-      go : (xs : List Refusal) → answer_of xs ≡ Refused r → answer_of xs ≡ answer_of (xs ++ ys)
+      go : (xs : List Refusal) → answer_of xs ≡ Err r → answer_of xs ≡ answer_of (xs ++ ys)
       go [] e = unfold answer_of in (let z : ◌≡◌ {A = ℕ} 0 1 = cc in absurd (omega arith))
       go (x ∷ xs) e = unfold answer_of in refl
 
@@ -77,10 +74,10 @@ unfolding room_refusal
 room_none needed n e = leb-true needed n (unless-none (leb needed n) R.Room e)
 
 -- 3
-pub tree-none : (v : Verdict) → tree_refusal v ≡ [] → v ≡ Passes
+pub tree-none : (v : Verdict) → tree_refusal v ≡ [] → v ≡ Ok tt
 unfolding tree_refusal
-tree-none Passes e = refl
-tree-none (Fails n) e = let z : ◌≡◌ {A = ℕ} 0 1 = cc in absurd (omega arith)
+tree-none (Ok tt) e = refl
+tree-none (Err n) e = let z : ◌≡◌ {A = ℕ} 0 1 = cc in absurd (omega arith)
 
 -- 4
 pub row_shape_none : (dim n : ℕ) → row_shape_refusal dim n ≡ [] → n ≡ dim

@@ -1,5 +1,5 @@
 -- What a reading sees of public calls: a tree is created in slices that are just long enough, and given rows, one call each.
-use Rattle.std.specs.Prelude.{ℕ, suc, ◌≡◌, cond, List, [], ◌∷◌, ◌++◌, map, length, take, drop, replicate, Float}
+use Rattle.std.specs.Prelude.{ℕ, suc, ◌≡◌, cond, List, [], ◌∷◌, ◌++◌, map, length, take, drop, replicate, Float, Ok, Err}
 use Rattle.std.specs.Float.{binary64}
 use Rattle.std.specs.Float.Ieee.{to_bits}
 use Rattle.binary64.specs.Operators.{f0}
@@ -7,11 +7,9 @@ use Rattle.feature.specs.Summaries.{slots_of}
 use Rattle.feature.specs.declared.Summary.{Summary}
 use Rattle.head.specs.Heads.{settings_of}
 use Rattle.head.specs.Sizes.{floats_needed, links_needed, scratch_floats_needed, scratch_links_needed}
-use Rattle.head.specs.Refusals.{number_of, values_of}
+use Rattle.head.specs.Refusals.{number_of, values_of, Answer}
 use Rattle.head.specs.declared.Head.{Head}
 use Rattle.head.specs.declared.Settings.{Settings}
-use Rattle.head.specs.declared.refusal.Answer.{Answer}
-use Rattle.head.specs.declared.refusal.Answer.TheVariants.{Accepted, Refused}
 use Rattle.rules.specs.Tree.{Node, Tree, node_at, row_count}
 use Rattle.rules.specs.Check.{total_of}
 use Rattle.rules.specs.Calls.{Left, lent_tree, created, row_inserted}
@@ -42,8 +40,8 @@ row_by_row (x ∷ xs) o = row_by_row xs (row_inserted o.head o.lent x)
 
 -- 0 for an accepted call, else document 01's number and values
 unfoldable pub answer_seen : Answer → List ℕ
-answer_seen Accepted = 0 ∷ []
-answer_seen (Refused r) = number_of r ∷ values_of r
+answer_seen (Ok tt) = 0 ∷ []
+answer_seen (Err r) = number_of r ∷ values_of r
 
 unfoldable pub tree_left : Left → Tree
 tree_left o = lent_tree o.head o.lent.floats o.lent.links

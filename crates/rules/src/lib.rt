@@ -1,12 +1,5 @@
-// The answers of the rules that code takes apart.
+// What the rules give that code takes apart.
 #![tactic(auto)]
-
-// What the tree check says: that the tree passes, or the lowest condition that fails.
-#[derive(Clone, Copy)]
-pub enum Verdict {
-    Passes,
-    Fails(u32),
-}
 
 // Where a caller reads the entries: entry i's weight is float `first` + i·`width`; its means follow, then its deviations.
 #[derive(Clone, Copy)]

@@ -1,11 +1,10 @@
 -- What a tree that passes the check gives to the code of the calls.
-use Rattle.std.specs.Prelude.{ℕ, ◌≤◌, ◌≡◌, true, List, length, Float}
+use Rattle.std.specs.Prelude.{ℕ, ◌≤◌, ◌≡◌, true, List, length, Float, Ok}
 use Rattle.binary64.specs.Whole.{most}
 use Rattle.head.specs.declared.Settings.{Settings}
 use Rattle.head.specs.declared.Counters.{Counters}
 use Rattle.head.specs.Limits.{Sized}
 use Rattle.head.specs.Sizes.{floats_needed, links_needed}
-use Rattle.rules.specs.declared.Verdict.TheVariants.{Passes}
 use Rattle.rules.specs.Check.{sized, total_of, checked}
 use Rattle.rules.specs.CheckLaws.{passing_of, passes_counts, passes_total}
 use Rattle.std.specs.Float.Ieee.Bits.{is_true}
@@ -14,7 +13,7 @@ use Rattle.arena.specs.Trees.{AnyLinks, Floats, Links}
 use Rattle.lists.specs.Lent.{EntriesCount}
 use Rattle.validate.specs.Granted.{sized-floats, sized_links}
 
-module _ (s : Settings) (n : Counters) (fs : List Float) (ls : List ℕ) (ok : checked s (tree_of s n fs ls) ≡ Passes) where
+module _ (s : Settings) (n : Counters) (fs : List Float) (ls : List ℕ) (ok : checked s (tree_of s n fs ls) ≡ Ok tt) where
   passing_sized : sized s (tree_of s n fs ls) ≡ true
   passing_sized = is_true _ (passing_of s (tree_of s n fs ls) ok).counts
 

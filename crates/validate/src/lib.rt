@@ -10,8 +10,8 @@ ghost use Rattle.arena.specs.Trees.{AnyFloats, Links};
 ghost use Rattle.lists.specs.Lent.{ListsFit};
 ghost use Rattle.validate.specs.Examined.{walked_once};
 
+use head::refusal::Condition;
 use head::{Counters, Settings};
-use rules::Verdict;
 use tour::depths::Depths;
 
 // Condition 4: the walk's depths, where it met every node once by the parent it names and came back, and every entry is in one leaf
@@ -28,33 +28,33 @@ fn walk_once(s: Settings, n: Counters, links: &[u32]) -> Option<Depths>
 }
 
 // The tree check: that the tree passes, or the lowest condition that fails. It writes nothing.
-pub fn validate(s: Settings, n: Counters, floats: &[f64], links: &[u32]) -> Verdict
+pub fn validate(s: Settings, n: Counters, floats: &[f64], links: &[u32]) -> Result<(), Condition>
     requires { Sized s × (floats_needed s ≤ length floats.now) × (links_needed s ≤ length links.now) }
     ensures { result ≡ checked s (tree_of s n floats.now links.now) }
 {
     if !lists::rooted::sized(s, n) {
-        return Verdict::Fails(1);
+        return Err(Condition::Counts);
     }
     if !lists::rooted::rooted(s, n, links) {
-        return Verdict::Fails(2);
+        return Err(Condition::Root);
     }
     if !lists::lists_fit(s, n, links) {
-        return Verdict::Fails(3);
+        return Err(Condition::Lists);
     }
     let Some(depths) = walk_once(s, n, links) else {
-        return Verdict::Fails(4);
+        return Err(Condition::Links);
     };
     if !lists::filled(s, n, links) {
-        return Verdict::Fails(5);
+        return Err(Condition::Filled);
     }
     if !depths.level() {
-        return Verdict::Fails(6);
+        return Err(Condition::Level);
     }
     if !weights::summed(s, n, floats, links) {
-        return Verdict::Fails(7);
+        return Err(Condition::Weights);
     }
     if n.running.merged >= s.max_leaves {
-        return Verdict::Fails(8);
+        return Err(Condition::Merged);
     }
-    Verdict::Passes
+    Ok(())
 }

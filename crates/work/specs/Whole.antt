@@ -1,9 +1,8 @@
 -- The whole slices after a changing call: the front new, the rest as lent.
-use Rattle.std.specs.Prelude.{ℕ, ◌≡◌, List, ◌++◌, length, drop, take, Float}
+use Rattle.std.specs.Prelude.{ℕ, ◌≡◌, List, ◌++◌, length, drop, take, Float, Ok}
 use Rattle.std.proofs.Common.{arith}
 use Rattle.head.specs.declared.Head.{Head}
 use Rattle.head.specs.declared.Counters.{Counters}
-use Rattle.head.specs.declared.refusal.Answer.TheVariants.{Accepted}
 use Rattle.head.specs.Heads.{settings_of, with_counters}
 use Rattle.head.specs.Limits.{Sized, allowed-sized}
 use Rattle.head.specs.Sizes.{floats_needed, links_needed, scratch_floats_needed, scratch_links_needed}
@@ -19,7 +18,7 @@ use Rattle.fronts.specs.Fronts.{Fronts, AllLeft}
 
 -- what an accepted call gives back and leaves
 abbrev pub head_left : Head → List Float → List ℕ → List Float → List ℕ → Left
-head_left g fs ls sf sl = record { head = g; answer = Accepted; lent = lending fs ls sf sl }
+head_left g fs ls sf sl = record { head = g; answer = Ok tt; lent = lending fs ls sf sl }
 
 module _ (h : Head) (l : Lent) (ready : Ready h l) where
   pub sized : Sized (settings_of h)

@@ -1,10 +1,9 @@
 -- The tree check says what the invariant says, for any tree, empty or not: a tree that passes satisfies it, and one that satisfies it passes.
-use Rattle.std.specs.Prelude.{◌&&◌, T, ℕ, ◌≤◌, ◌≡◌, refl, ◌⊎◌, ◌≢◌, List, [], ◌∷◌, length}
+use Rattle.std.specs.Prelude.{◌&&◌, T, ℕ, ◌≤◌, ◌≡◌, refl, ◌⊎◌, ◌≢◌, List, [], ◌∷◌, length, Ok}
 use Rattle.std.specs.Float.Ieee.Fits.{and_r}
 use Rattle.std.proofs.Common.{sym, subst, inl, inr, arith}
 use Rattle.feature.specs.declared.Summary.{Summary}
 use Rattle.head.specs.declared.Settings.{Settings}
-use Rattle.rules.specs.declared.Verdict.TheVariants.{Passes}
 use Rattle.rules.specs.Lists.{every, concat, up_from}
 use Rattle.rules.specs.Check.{linked, once_each, levels, own_list, leaf_lists, checked, total_of, Binary64}
 use Rattle.rules.specs.Tree.{Tree}
@@ -28,7 +27,7 @@ none-total [] e = refl
 none-total (x ∷ l) e = absurd (omega arith)
 
 -- a tree that passes, its weights floats of binary64 as lent ones are, satisfies the invariant
-pub passing_rests : (s : Settings) (t : Tree) → Binary64 t → checked s t ≡ Passes → AtRest s t (total_of t.entries)
+pub passing_rests : (s : Settings) (t : Tree) → Binary64 t → checked s t ≡ Ok tt → AtRest s t (total_of t.entries)
 passing_rests s t n e = go (same? (length t.entries) 0)
   where
     go : (length t.entries ≡ 0) ⊎ (length t.entries ≢ 0) → AtRest s t (total_of t.entries)
@@ -36,18 +35,18 @@ passing_rests s t n e = go (same? (length t.entries) 0)
     go (inr z) = let q = checked-whole s t n (omega arith) e in record { holds = inr q.0; few = q.1; below = q.2 }
 
 -- and a tree that satisfies it passes
-pub resting_passes : (s : Settings) (t : Tree) (rows : ℕ) → AtRest s t rows → checked s t ≡ Passes
+pub resting_passes : (s : Settings) (t : Tree) (rows : ℕ) → AtRest s t rows → checked s t ≡ Ok tt
 resting_passes s t rows r = go r.holds
   where
-    go : Holding s t rows → checked s t ≡ Passes
+    go : Holding s t rows → checked s t ≡ Ok tt
     go (inl b) =
         let q = b.0 in
         let u = r.below in
-        subst (λ u. checked s u ≡ Passes) (sym q.is) (bare_passes s q.summary t.running q.zero (omega arith) u)
+        subst (λ u. checked s u ≡ Ok tt) (sym q.is) (bare_passes s q.summary t.running q.zero (omega arith) u)
     go (inr w) = whole_passes w.1 w.2 r.few r.below
 
 -- each entry is in one leaf list, once
-pub passing_linked : (s : Settings) (t : Tree) → checked s t ≡ Passes → T (once_each (length t.entries) (leaf_lists t.nodes))
+pub passing_linked : (s : Settings) (t : Tree) → checked s t ≡ Ok tt → T (once_each (length t.entries) (leaf_lists t.nodes))
 unfolding linked
 passing_linked s t e =
     and_r (once_each (length t.nodes) (concat (levels t)) && every (own_list t) (up_from (length t.nodes) 0))

@@ -1,5 +1,5 @@
 -- The empty tree and the check.
-use Rattle.std.specs.Prelude.{ℕ, suc, ◌+◌, ◌*◌, ◌/◌, ◌≤◌, ◌≡◌, refl, Bool, true, false, ◌&&◌, ◌||◌, cond, List, [], ◌∷◌, ◌++◌, T, leb, ltb, eqb, length, Option, None, Some}
+use Rattle.std.specs.Prelude.{ℕ, suc, ◌+◌, ◌*◌, ◌/◌, ◌≤◌, ◌≡◌, refl, Bool, true, false, ◌&&◌, ◌||◌, cond, List, [], ◌∷◌, ◌++◌, T, leb, ltb, eqb, length, Option, None, Some, Ok}
 use Rattle.std.proofs.Common.{ap, ◌∙◌, subst, true≢false, le→leb, lt→ltb}
 use Rattle.std.proofs.lemmas.Bool.{false≢true}
 use native.Mathlib.Omega.{arith}
@@ -11,8 +11,8 @@ use Rattle.binary64.specs.Whole.{whole}
 use Rattle.binary64.specs.Zero.{eq-zero}
 use Rattle.feature.specs.declared.Summary.{Summary}
 use Rattle.head.specs.declared.Settings.{Settings}
+use Rattle.head.specs.declared.refusal.Condition.TheVariants.{Counts, Root, Lists, Links, Filled, Level, Weights, Merged}
 use Rattle.head.specs.Sizes.{node_cap}
-use Rattle.rules.specs.declared.Verdict.TheVariants.{Passes}
 use Rattle.rules.specs.Lists.{up_from, every, occurs, concat}
 use Rattle.rules.specs.Tree.{Node, Tree, node_at, cap}
 use Rattle.rules.specs.Check.{once_each, orphan, sized, rooted, list_fits, next_level, levels_from, levels, own_list, leaf_lists, linked, filled, lone_root, level, Binary64}
@@ -103,7 +103,7 @@ lone_node s m r h2 h3 h4 h5 = go m.list refl m.leaf refl
         two n e = omega arith
 
 -- a lone root of weight zero passes
-pub bare_passes : (s : Settings) (z : Summary) (r : Running) → Zero z.weight → 1 ≤ s.max_leaves → Below s r → checked s (empty_tree z r) ≡ Passes
+pub bare_passes : (s : Settings) (z : Summary) (r : Running) → Zero z.weight → 1 ≤ s.max_leaves → Below s r → checked s (empty_tree z r) ≡ Ok tt
 unfolding checked conditions sized rooted orphan every list_fits linked once_each levels levels_from next_level concat occurs up_from own_list leaf_lists filled lone_root level same_kind growing weighed weighs total_of collected node_at lowest node_cap merged_below
 bare_passes s z r hz one hg =
     go (leb 1 ((s.max_leaves + 1) * (s.max_leaves + 2) / 2))
@@ -114,7 +114,9 @@ bare_passes s z r hz one hg =
     (ltb r.merged s.max_leaves) (is_true (ltb r.merged s.max_leaves) (lt→ltb r.merged s.max_leaves hg))
   where
     go : (a : Bool) → a ≡ true → (b : Bool) → b ≡ true → (c : Bool) → c ≡ true → (d : Bool) → d ≡ true → (e : Bool) → e ≡ true
-        → lowest 1 ((true && a && b) ∷ true ∷ ((c && true) && true) ∷ true ∷ true ∷ true ∷ (true && (d && true)) ∷ e ∷ []) ≡ Passes
+        → lowest
+        ((Counts, true && a && b) ∷ (Root, true) ∷ (Lists, (c && true) && true) ∷ (Links, true)
+        ∷ (Filled, true) ∷ (Level, true) ∷ (Weights, true && (d && true)) ∷ (Merged, e) ∷ []) ≡ Ok tt
     go true p true q true u true v true w = refl
     go false p b q c u d v e w = absurd (false≢true p)
     go true p false q c u d v e w = absurd (false≢true q)
@@ -127,7 +129,7 @@ unfolding weighed every weighs up_from collected node_at total_of
 zero_of z r f w = eq-zero z.weight f (and_l (eq (whole 0) z.weight) true (and_r true (eq (whole 0) z.weight && true) w))
 
 -- an empty tree that passes is one bare leaf
-pub checked-bare : (s : Settings) (t : Tree) → Binary64 t → length t.entries ≡ 0 → checked s t ≡ Passes → Bare t × Below s t.running
+pub checked-bare : (s : Settings) (t : Tree) → Binary64 t → length t.entries ≡ 0 → checked s t ≡ Ok tt → Bare t × Below s t.running
 unfolding node_at merged_below
 checked-bare s t lent none_in h =
     let p = passing_of s t h in (

@@ -1,6 +1,6 @@
 -- A tree that the invariant holds of passes the check.
 use Prim.Native.Nat.{ℕ, zero, suc, ◌+◌, ◌≤◌, ◌<◌}
-use Rattle.std.specs.Prelude.{◌≡◌, ◌⊎◌, Bool, true, false, ◌&&◌, ◌||◌, cond, List, [], ◌∷◌, map, eqb, get_or}
+use Rattle.std.specs.Prelude.{◌≡◌, ◌⊎◌, Bool, true, false, ◌&&◌, ◌||◌, cond, List, [], ◌∷◌, map, eqb, get_or, Ok}
 use Rattle.std.proofs.Math.Path.{refl, subst}
 use Rattle.std.proofs.Common.{sym, ap, ◌∙◌, inl, inr, arith, le→leb}
 use Rattle.std.proofs.Math.Dec.{T, leb, ltb, lt→ltb, eqb_refl}
@@ -15,7 +15,6 @@ use Rattle.feature.specs.declared.Summary.{Summary}
 use Rattle.feature.specs.Summaries.{blank}
 use Rattle.head.specs.declared.Settings.{Settings}
 use Rattle.head.specs.Sizes.{node_cap}
-use Rattle.rules.specs.declared.Verdict.TheVariants.{Passes}
 use Rattle.rules.specs.Lists.{up_from, every, occurs, concat}
 use Rattle.rules.specs.Tree.{Node, Tree, node_at, entry_at, blank_node, cap, row_count}
 use Rattle.rules.specs.Check.{once_each, orphan, names, sized, rooted, list_fits, levels, own_list, leaf_lists, linked, lone_root, filled, total_of}
@@ -189,7 +188,7 @@ module _ {s : Settings} {t : Tree} {R : ℕ → ℕ} {total : ℕ} (g : Settled 
       (every_up (weighs t) (length t.nodes) 0 (λ c q. node_weighs c (omega arith)))
 
   -- all eight conditions
-  pub whole_passes : Below s t.running → checked s t ≡ Passes
+  pub whole_passes : Below s t.running → checked s t ≡ Ok tt
   unfolding merged_below
   whole_passes m = passing_passes s t (record {
     counts = c1;

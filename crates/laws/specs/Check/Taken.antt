@@ -1,6 +1,6 @@
 -- A tree that passes the check, with an entry, is one that the invariant holds of.
 use Rattle.std.specs.Float.Ieee.Bits.{is_true}
-use Rattle.std.specs.Prelude.{ℕ, ◌≤◌, ◌<◌, ◌≡◌, ◌⊎◌, true, false, ◌&&◌, [], ◌∷◌, map, T, eqb, length}
+use Rattle.std.specs.Prelude.{ℕ, ◌≤◌, ◌<◌, ◌≡◌, ◌⊎◌, true, false, ◌&&◌, [], ◌∷◌, map, T, eqb, length, Ok}
 use Rattle.std.proofs.Math.Path.{sym}
 use Rattle.std.proofs.Common.{◌∙◌, subst, inl, inr, arith, ltb→lt, eqb→eq}
 use Rattle.std.proofs.Math.Dec.{leb, leb→le}
@@ -13,7 +13,6 @@ use Rattle.binary64.specs.Order.{eq_is}
 use Rattle.feature.specs.Summaries.{blank}
 use Rattle.head.specs.declared.Settings.{Settings}
 use Rattle.head.specs.Sizes.{node_cap}
-use Rattle.rules.specs.declared.Verdict.TheVariants.{Passes}
 use Rattle.rules.specs.Lists.{up_from, every}
 use Rattle.rules.specs.Tree.{Tree, node_at, entry_at, row_count}
 use Rattle.rules.specs.Reinsert.{collected}
@@ -125,7 +124,7 @@ unfolding lone_root
 not-lone t h q = let e = eqb→eq (length t.entries) 0 (and_r (eqb (length t.nodes) 1) (eqb (length t.entries) 0) q) in omega arith
 
 -- a tree with entries that passes satisfies the invariant, with the sum of its entries' weights as total
-pub checked-whole : (s : Settings) (t : Tree) → Binary64 t → 0 < length t.entries → checked s t ≡ Passes → Whole s t (total_of t.entries) ×
+pub checked-whole : (s : Settings) (t : Tree) → Binary64 t → 0 < length t.entries → checked s t ≡ Ok tt → Whole s t (total_of t.entries) ×
     (length t.entries ≤ s.max_leaves) × Below s t.running
 unfolding sized merged_below
 checked-whole s t lent here h =

@@ -1,11 +1,10 @@
 -- What every call but creation finds and leaves: a head within its limits, buffers with room, and in them a tree at rest.
-use Rattle.std.specs.Prelude.{ℕ, ◌≤◌, ◌≡◌, true, List, [], drop, Float}
+use Rattle.std.specs.Prelude.{ℕ, ◌≤◌, ◌≡◌, true, List, [], drop, Float, Ok}
 use Rattle.std.proofs.Common.{sym, arith, length-append, length-drop}
 use Rattle.std.proofs.Math.Path.{subst}
 use Rattle.std.proofs.Math.ListN.{length}
 use Rattle.head.specs.declared.Settings.{Settings}
 use Rattle.head.specs.declared.Head.{Head}
-use Rattle.head.specs.declared.refusal.Answer.TheVariants.{Accepted}
 use Rattle.head.specs.Heads.{new_counters, settings_of, with_counters}
 use Rattle.head.specs.Counting.{new_running}
 use Rattle.head.specs.Sizes.{links_needed, floats_needed}
@@ -95,7 +94,7 @@ module _ (h : Head) (fs : List Float) (ls : List ℕ) where
         is = back;
       }
 
-  pub created-fresh : (created h fs ls).answer ≡ Accepted → Fresh (created h fs ls)
+  pub created-fresh : (created h fs ls).answer ≡ Ok tt → Fresh (created h fs ls)
   unfolding created
   created-fresh e =
       let (none, is) = made-done (create_refusals h fs ls) h fs ls e in

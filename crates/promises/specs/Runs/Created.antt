@@ -1,5 +1,5 @@
 -- What a start from creation adds: its buffers hold a fresh tree, which validation accepts, so that every row is a row of a call.
-use Rattle.std.specs.Prelude.{ℕ, ◌≡◌, refl, ◌⊎◌, Bool, true, false, cond, List, [], ◌∷◌, ◌++◌, map, T, pos, length, Float}
+use Rattle.std.specs.Prelude.{ℕ, ◌≡◌, refl, ◌⊎◌, Bool, true, false, cond, List, [], ◌∷◌, ◌++◌, map, T, pos, length, Float, Ok, Err}
 use Rattle.std.proofs.Common.{sym, ap, ◌∙◌, inl, inr, arith, le-leb}
 use Rattle.std.proofs.Math.Path.{subst}
 use Rattle.std.proofs.lemmas.List.{map-append}
@@ -8,8 +8,7 @@ use Rattle.std.specs.Float.{binary64}
 use Rattle.std.specs.Float.Ieee.{fits}
 use Rattle.binary64.specs.Whole.{whole}
 use Rattle.head.specs.declared.Head.{Head}
-use Rattle.head.specs.declared.refusal.Answer.{Answer}
-use Rattle.head.specs.declared.refusal.Answer.TheVariants.{Accepted, Refused}
+use Rattle.head.specs.Refusals.{Answer}
 use Rattle.head.specs.Heads.{settings_of}
 use Rattle.head.specs.Sizes.{links_needed, floats_needed}
 use Rattle.rules.specs.Calls.{Made, create_refusals, lent_tree, created, validated, tree_refusals, answer_of}
@@ -28,7 +27,7 @@ use Rattle.promises.specs.Runs.Public.{calls_public}
 abbrev held : Made → Tree
 held m = lent_tree m.head m.floats m.links
 
-fresh_accepted : (m : Made) → Fresh m → validated m.head m.floats m.links ≡ Accepted
+fresh_accepted : (m : Made) → Fresh m → validated m.head m.floats m.links ≡ Ok tt
 unfolding validated tree_refusals create_refusals settings_refusal room_refusal tree_refusal unless answer_of
 fresh_accepted m f =
     let s = settings_of m.head in
@@ -48,7 +47,7 @@ fresh_binary64 h = record {
   entries_fit = (λ c l. absurd (omega arith));
 }
 
-module _ (h : Head) (fs : List Float) (ls : List ℕ) (e : (created h fs ls).answer ≡ Accepted) where
+module _ (h : Head) (fs : List Float) (ls : List ℕ) (e : (created h fs ls).answer ≡ Ok tt) where
   abbrev m : Made
   m = created h fs ls
 
@@ -82,8 +81,8 @@ called_more xs (rows, e) = (rows ++ xs, ap (λ l. l ++ map called xs) e ∙ sym 
 
 called_after : {ys zs : List Origin} (r : Answer) → Called zs → Called ys → Called (after r zs ys)
 unfolding after
-called_after Accepted new old = new
-called_after (Refused r) new old = old
+called_after (Ok tt) new old = new
+called_after (Err r) new old = old
 
 called_refit : {ys : List Origin} (xs : List (List Float)) (t : Tree) → Called ys → Called (rows_refit xs t ys)
 unfolding rows_refit
@@ -93,7 +92,7 @@ called_refit {ys} xs t old = go (effective xs t)
     go true = (xs, refl)
     go false = old
 
-module _ (h₀ : Head) (fs₀ : List Float) (ls₀ : List ℕ) (e : (created h₀ fs₀ ls₀).answer ≡ Accepted) where
+module _ (h₀ : Head) (fs₀ : List Float) (ls₀ : List ℕ) (e : (created h₀ fs₀ ls₀).answer ≡ Ok tt) where
   all_called : {h : Head} {fs : List Float} {ls : List ℕ} {ys : List Origin} {a : List ℕ} → FromNew h₀ fs₀ ls₀ e h fs ls ys a → Called ys
   all_called (start n ok) = ([], ap (λ t. origins_of t.entries) (is-fresh h₀ fs₀ ls₀ e).is ∙ (unfold fresh origins_of in refl))
   all_called (row l x o _ c) = called_after o.answer (called_more (x ∷ []) (all_called c)) (all_called c)

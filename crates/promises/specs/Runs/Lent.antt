@@ -1,6 +1,6 @@
 -- A tree that a caller lends: if it passes the check, every accepted call leaves a passing tree, and its rows have an account to begin with.
 use Prim.Native.Nat.{ℕ, zero, suc, ◌+◌, ◌≤◌, ◌<◌}
-use Rattle.std.specs.Prelude.{◌≡◌, ◌⊎◌, ◌≢◌, Bool, true, false, length, get_or, replicate, Float}
+use Rattle.std.specs.Prelude.{◌≡◌, ◌⊎◌, ◌≢◌, Bool, true, false, length, get_or, replicate, Float, Ok}
 use Rattle.std.proofs.Math.Path.{refl, sym}
 use Rattle.std.proofs.Common.{ap, ◌∙◌, subst, inl, inr, length-append, get_or-append-add}
 use mathlib.Core.List.{List, [], ◌∷◌, ◌++◌, map, append_assoc}
@@ -12,7 +12,6 @@ use Rattle.feature.specs.declared.Summary.{Summary}
 use Rattle.feature.specs.Summaries.{blank}
 use Rattle.head.specs.declared.Settings.{Settings}
 use Rattle.head.specs.Limits.{Sized}
-use Rattle.rules.specs.declared.Verdict.TheVariants.{Passes}
 use Rattle.rules.specs.Lists.{occurs, up_from}
 use Rattle.rules.specs.Tree.{Tree, entry_at, row_count}
 use Rattle.rules.specs.Refit.{refitted}
@@ -74,7 +73,7 @@ pub standing_owned : (t : Tree) → Owned t (standing 0 t.entries)
 unfolding entry_weight entry_at
 standing_owned t c = sym (stands 0 t.entries c) ∙ ap (λ z. occurs z (standing 0 t.entries)) (let q : c + 0 ≡ c = omega arith in q)
 
-pub lent-owning : (s : Settings) (t : Tree) → Binary64 t → checked s t ≡ Passes → Owning s t (total_of t.entries) (standing 0 t.entries)
+pub lent-owning : (s : Settings) (t : Tree) → Binary64 t → checked s t ≡ Ok tt → Owning s t (total_of t.entries) (standing 0 t.entries)
 lent-owning s t n ok = record { rests = passing_rests s t n ok; owned = standing_owned t }
 
 -- ---- and what its entries are made of: each of its own rows, as it came
@@ -225,18 +224,18 @@ lent-made s t c o =
 
 -- ---- every accepted call on a passing tree gives a passing tree
 
-module _ {s : Settings} (z : Sized s) (t : Tree) (n : Binary64 t) (ok : checked s t ≡ Passes) where
-  pub row_passes : (x : List Float) → total_of t.entries < most → checked s (inserted s x t) ≡ Passes
+module _ {s : Settings} (z : Sized s) (t : Tree) (n : Binary64 t) (ok : checked s t ≡ Ok tt) where
+  pub row_passes : (x : List Float) → total_of t.entries < most → checked s (inserted s x t) ≡ Ok tt
   row_passes x h = resting_passes s (inserted s x t) _ (row_owning z x t (total_of t.entries) (standing 0 t.entries) (lent-owning s t n ok) h).rests
 
-  pub batch_passes : (xs : List (List Float)) → total_of t.entries + length xs ≤ most → checked s (inserted_all s xs t) ≡ Passes
+  pub batch_passes : (xs : List (List Float)) → total_of t.entries + length xs ≤ most → checked s (inserted_all s xs t) ≡ Ok tt
   batch_passes xs h =
       resting_passes s (inserted_all s xs t) _ (batch-owning z xs t (total_of t.entries) (standing 0 t.entries) (lent-owning s t n ok) h).rests
 
-  pub refit_passes : (way : Route) → Names s way → (xs : List (List Float)) → (0 < length t.entries → length xs ≤ most) → checked s (refitted s way xs t) ≡ Passes
+  pub refit_passes : (way : Route) → Names s way → (xs : List (List Float)) → (0 < length t.entries → length xs ≤ most) → checked s (refitted s way xs t) ≡ Ok tt
   refit_passes way names xs h = go (effective xs t) refl
     where
-      go : (b : Bool) → effective xs t ≡ b → checked s (refitted s way xs t) ≡ Passes
+      go : (b : Bool) → effective xs t ≡ b → checked s (refitted s way xs t) ≡ Ok tt
       go true e =
           resting_passes s (refitted s way xs t) _ (effective-owning z way names xs t (total_of t.entries) (standing 0 t.entries) (passing_rests s t n ok) e
           (h (effective-some xs t e))).rests

@@ -1,5 +1,5 @@
 -- One public call on buffers that hold a tree at rest: accepted, they hold the rule's tree, at rest again; refused, they are as before.
-use Rattle.std.specs.Prelude.{ℕ, ◌+◌, ◌/◌, ◌≤◌, ◌<◌, ◌≡◌, List, [], ◌∷◌, ◌++◌, map, Float}
+use Rattle.std.specs.Prelude.{ℕ, ◌+◌, ◌/◌, ◌≤◌, ◌<◌, ◌≡◌, List, [], ◌∷◌, ◌++◌, map, Float, Ok, Err}
 use Rattle.std.proofs.Math.Path.{refl}
 use Rattle.std.proofs.Common.{sym, subst, ◌∙◌, arith}
 use Rattle.std.proofs.Math.ListN.{length}
@@ -7,7 +7,6 @@ use Rattle.binary64.specs.Whole.{most}
 use Rattle.head.specs.declared.Settings.{Settings}
 use Rattle.head.specs.declared.Head.{Head}
 use Rattle.head.specs.declared.refusal.Refusal.{Refusal}
-use Rattle.head.specs.declared.refusal.Answer.TheVariants.{Accepted, Refused}
 use Rattle.head.specs.Heads.{settings_of}
 use Rattle.rules.specs.Calls.{create_refusals, row_refusals, batch_refusals, refit_refusals, Lent, Left, lent_tree, changed, settle, validated, tree_refusals}
 use Rattle.rules.specs.Calls.{made_by, created, row_inserted, batch_inserted, batch_refitted}
@@ -55,11 +54,11 @@ PublicAfter t₀ o ys a = Public t₀ o.head o.lent.floats o.lent.links ys a
 
 -- accepted, the call leaves what it says; refused, all is as before
 answered : {t₀ : Tree} (rs : List Refusal) (h : Head) (l : Lent) (u : Tree) {ys zs : List Origin} {a b : List ℕ} → Public t₀ h l.floats l.links ys a
-    → ((settle rs h l (changed h l u)).answer ≡ Accepted → PublicAfter t₀ (settle rs h l (changed h l u)) zs b)
+    → ((settle rs h l (changed h l u)).answer ≡ Ok tt → PublicAfter t₀ (settle rs h l (changed h l u)) zs b)
     → (o : Left) → o ≡ settle rs h l (changed h l u) → PublicAfter t₀ o (after o.answer zs ys) (after o.answer b a)
 answered {t₀} rs h l u {ys} {zs} {a} {b} p q o e = subst (λ o. PublicAfter t₀ o (after o.answer zs ys) (after o.answer b a)) (sym e) (go rs q)
   where
-    go : (rs : List Refusal) → ((settle rs h l (changed h l u)).answer ≡ Accepted → PublicAfter t₀ (settle rs h l (changed h l u)) zs b)
+    go : (rs : List Refusal) → ((settle rs h l (changed h l u)).answer ≡ Ok tt → PublicAfter t₀ (settle rs h l (changed h l u)) zs b)
         → PublicAfter t₀ (settle rs h l (changed h l u)) (after (settle rs h l (changed h l u)).answer zs ys)
         (after (settle rs h l (changed h l u)).answer b a)
     go [] q = unfold settle changed after in q refl
@@ -74,12 +73,12 @@ module _ (h : Head) (l : Lent) where
 
   -- ---- accepted: the rule's tree is left, and the rows fit below 2^53
 
-  pub row_accepted : (x : List Float) → (row_inserted h l x).answer ≡ Accepted → (row_inserted h l x ≡ changed h l (inserted s x t))
+  pub row_accepted : (x : List Float) → (row_inserted h l x).answer ≡ Ok tt → (row_inserted h l x ≡ changed h l (inserted s x t))
       × (total_of t.entries + 1 ≤ most)
   unfolding row_inserted
   row_accepted x e = let (taken, is) = accepted_done (row_refusals h l x) h l (changed h l (inserted s x t)) e in (is, (row_taken h l x taken).room)
 
-  pub batch_accepted : (xs : List Float) → (batch_inserted h l xs).answer ≡ Accepted
+  pub batch_accepted : (xs : List Float) → (batch_inserted h l xs).answer ≡ Ok tt
       → (batch_inserted h l xs ≡ changed h l (inserted_all s (batch_rows h xs) t)) × (total_of t.entries + length (batch_rows h xs) ≤ most)
   unfolding batch_inserted batch_rows
   batch_accepted xs e =
@@ -87,7 +86,7 @@ module _ (h : Head) (l : Lent) where
       let (taken, is) = accepted_done (batch_refusals h l xs) h l (changed h l (inserted_all s (rows_of n s.dim xs) t)) e in
       (is, rw (rows_count n s.dim xs) (batch-taken h l xs taken).room)
 
-  pub refit_accepted : (xs : List Float) → (batch_refitted h l xs).answer ≡ Accepted
+  pub refit_accepted : (xs : List Float) → (batch_refitted h l xs).answer ≡ Ok tt
       → (batch_refitted h l xs ≡ changed h l (refitted s (greedy s) (batch_rows h xs) t)) × (0 < length t.entries → length (batch_rows h xs) ≤ most)
   unfolding batch_refitted batch_rows
   refit_accepted xs e =
@@ -103,14 +102,14 @@ module _ (h : Head) (l : Lent) where
     unfolding inserted_all owners_all
     row_run x small = (insert {t = t} (x ∷ []) small p.run, batch_shaped s (x ∷ []) t p.serving.shaped)
 
-    after_row : (x : List Float) → (row_inserted h l x).answer ≡ Accepted → PublicAfter t₀ (row_inserted h l x) (ys ++ (called x ∷ [])) (owners_in s x t a)
+    after_row : (x : List Float) → (row_inserted h l x).answer ≡ Ok tt → PublicAfter t₀ (row_inserted h l x) (ys ++ (called x ∷ [])) (owners_in s x t a)
     after_row x e =
         let (is, small) = row_accepted x e in
         let (run, k) = row_run x small in
         subst (λ o. PublicAfter t₀ o (ys ++ (called x ∷ [])) (owners_in s x t a)) (sym is)
         (next h l p (inserted s x t) (ys ++ (called x ∷ [])) (owners_in s x t a) (inserted_fine s x t) run k)
 
-    after-batch : (xs : List Float) → (batch_inserted h l xs).answer ≡ Accepted
+    after-batch : (xs : List Float) → (batch_inserted h l xs).answer ≡ Ok tt
         → PublicAfter t₀ (batch_inserted h l xs) (ys ++ map called (batch_rows h xs)) (owners_all s (batch_rows h xs) t a)
     after-batch xs e =
         let rows = batch_rows h xs in
@@ -119,7 +118,7 @@ module _ (h : Head) (l : Lent) where
         subst (λ o. PublicAfter t₀ o (ys ++ map called rows) (owners_all s rows t a)) (sym is)
         (next h l p (inserted_all s rows t) (ys ++ map called rows) (owners_all s rows t a) (all_fine s rows t) run (batch_shaped s rows t p.serving.shaped))
 
-    after_refit : (xs : List Float) → (batch_refitted h l xs).answer ≡ Accepted
+    after_refit : (xs : List Float) → (batch_refitted h l xs).answer ≡ Ok tt
         → PublicAfter t₀ (batch_refitted h l xs) (rows_refit (batch_rows h xs) t ys) (owners_refit s (greedy s) (batch_rows h xs) t a)
     after_refit xs e =
         let rows = batch_rows h xs in
@@ -148,7 +147,7 @@ module _ (h : Head) (l : Lent) where
 
     -- ---- locality of an accepted row without a rebuild
 
-    pub row_left : (x : List Float) → (row_inserted h l x).answer ≡ Accepted → length (grown s (row_item s x) t).entries ≤ s.max_leaves
+    pub row_left : (x : List Float) → (row_inserted h l x).answer ≡ Ok tt → length (grown s (row_item s x) t).entries ≤ s.max_leaves
         → let o = row_inserted h l x in RowLocal s x t (lent_tree o.head o.lent.floats o.lent.links)
     row_left x e few =
         let (is, small) = row_accepted x e in
@@ -160,21 +159,21 @@ module _ (h : Head) (l : Lent) where
         (subst (λ u. RowLocal s x t u) (sym (left ∙ no_rebuild s x t few)) (row_local s x t z rest (omega arith)))
 
 made_refused : (rs : List Refusal) (r : Refusal) (h : Head) (fs : List Float) (ls : List ℕ) {t₀ : Tree} {ys : List Origin} {a : List ℕ}
-    → (made_by rs h fs ls).answer ≡ Refused r → Public t₀ h fs ls ys a
+    → (made_by rs h fs ls).answer ≡ Err r → Public t₀ h fs ls ys a
     → Public t₀ (made_by rs h fs ls).head (made_by rs h fs ls).floats (made_by rs h fs ls).links ys a
 unfolding made_by
 made_refused [] r h fs ls e p = let z : ◌≡◌ {A = ℕ} 0 1 = cc in absurd (omega arith)
 made_refused (q ∷ rs) r h fs ls e p = p
 
 pub after_refused : (r : Refusal) (h : Head) (fs : List Float) (ls : List ℕ) {t₀ : Tree} {ys : List Origin} {a : List ℕ}
-    → (created h fs ls).answer ≡ Refused r → Public t₀ h fs ls ys a
+    → (created h fs ls).answer ≡ Err r → Public t₀ h fs ls ys a
     → Public t₀ (created h fs ls).head (created h fs ls).floats (created h fs ls).links ys a
 unfolding created
 after_refused r h fs ls e p = made_refused (create_refusals h fs ls) r h fs ls e p
 
 -- ---- the start: a head and buffers that validation accepts
 
-pub after_validate : (h : Head) (fs : List Float) (ls : List ℕ) → Binary64 (lent_tree h fs ls) → validated h fs ls ≡ Accepted
+pub after_validate : (h : Head) (fs : List Float) (ls : List ℕ) → Binary64 (lent_tree h fs ls) → validated h fs ls ≡ Ok tt
     → Public (lent_tree h fs ls) h fs ls (origins_of (lent_tree h fs ls).entries) (standing 0 (lent_tree h fs ls).entries)
 unfolding validated
 after_validate h fs ls n e =

@@ -1,5 +1,5 @@
 -- Demand 3 over the public calls: whatever calls follow on a tree that validation accepts, accepted or refused, each on the head and the buffers that the last one left.
-use Rattle.std.specs.Prelude.{ℕ, ◌+◌, ◌/◌, ◌%◌, ◌≤◌, ◌≡◌, Bool, ◌||◌, List, [], leb, eqb, Float}
+use Rattle.std.specs.Prelude.{ℕ, ◌+◌, ◌/◌, ◌%◌, ◌≤◌, ◌≡◌, Bool, ◌||◌, List, [], leb, eqb, Float, Ok}
 use Rattle.std.proofs.Math.Path.{refl}
 use Rattle.std.proofs.Math.Bool.{true, false}
 use Rattle.std.proofs.Common.{arith}
@@ -7,7 +7,6 @@ use borrow.Author.Tests.{eq-eqb, le-leb}
 use Rattle.std.proofs.Math.ListN.{length}
 use Rattle.binary64.specs.Whole.{most}
 use Rattle.head.specs.declared.Head.{Head}
-use Rattle.head.specs.declared.refusal.Answer.TheVariants.{Accepted}
 use Rattle.head.specs.declared.refusal.Refusal.TheVariants.{Full}
 use Rattle.head.specs.Heads.{settings_of}
 use Rattle.head.specs.Sizes.{floats_needed, links_needed, scratch_floats_needed, scratch_links_needed}
@@ -50,27 +49,27 @@ module _ {h₀ : Head} {fs₀ : List Float} {ls₀ : List ℕ} {h : Head} {fs : 
 
 -- one more row, accepted and without a rebuild: between the trees in the buffers
 module _ {h₀ : Head} {fs₀ : List Float} {ls₀ : List ℕ} {h : Head} (l : Lent) {ys : List Origin} {a : List ℕ} (c : Calls h₀ fs₀ ls₀ h l.floats l.links ys a) where
-  pub calls_local : (x : List Float) → (row_inserted h l x).answer ≡ Accepted
+  pub calls_local : (x : List Float) → (row_inserted h l x).answer ≡ Ok tt
       → length (grown (settings_of h) (row_item (settings_of h) x) (lent_tree h l.floats l.links)).entries ≤ (settings_of h).max_leaves
       → let o = row_inserted h l x in RowLocal (settings_of h) x (lent_tree h l.floats l.links) (lent_tree o.head o.lent.floats o.lent.links)
   calls_local x e few = row_left h l ys a (calls_public c) x e few
 
   -- room at every moment of the next call
-  pub row_roomy : (x : List Float) → (row_inserted h l x).answer ≡ Accepted → {u : Tree} → Inserting (settings_of h) x (lent_tree h l.floats l.links) u
+  pub row_roomy : (x : List Float) → (row_inserted h l x).answer ≡ Ok tt → {u : Tree} → Inserting (settings_of h) x (lent_tree h l.floats l.links) u
       → Roomy (settings_of h) u
   row_roomy x e w =
       let small = (row_accepted h l x e).1 in
       let n = rest-total (calls_rest c) in
       inserting_roomy (sizes_of (calls_public c).serving) x (lent_tree h l.floats l.links) (calls_rest c) (omega arith) w
 
-  pub batch-roomy : (xs : List Float) → (batch_inserted h l xs).answer ≡ Accepted → {u : Tree}
+  pub batch-roomy : (xs : List Float) → (batch_inserted h l xs).answer ≡ Ok tt → {u : Tree}
       → InsertingAll (settings_of h) (batch_rows h xs) (lent_tree h l.floats l.links) u → Roomy (settings_of h) u
   batch-roomy xs e w =
       let small = (batch_accepted h l xs e).1 in
       let n = rest-total (calls_rest c) in
       inserting_all-roomy (sizes_of (calls_public c).serving) (batch_rows h xs) (lent_tree h l.floats l.links) (calls_rest c) (omega arith) w
 
-  pub refit_roomy : (xs : List Float) → (batch_refitted h l xs).answer ≡ Accepted → {u : Tree}
+  pub refit_roomy : (xs : List Float) → (batch_refitted h l xs).answer ≡ Ok tt → {u : Tree}
       → Refitting (settings_of h) (greedy (settings_of h)) (batch_rows h xs) (lent_tree h l.floats l.links) u → Roomy (settings_of h) u
   refit_roomy xs e w =
       refitting_roomy (greedy-names (settings_of h)) (sizes_of (calls_public c).serving) (batch_rows h xs) (lent_tree h l.floats l.links) (calls_rest c) (refit_accepted h l xs e).1 w
@@ -104,14 +103,14 @@ module _ {h₀ : Head} {fs₀ : List Float} {ls₀ : List ℕ} {h : Head} (l : L
       let sk = le-leb (scratch_links_needed s) (length l.scratch_links) links in
       rw (p.allows, f, k, sf, sk, resting_passes s t (length ys) (calls_rest c))
 
-  pub row_goes_on : (x : List Float) → length x ≡ (settings_of h).dim → length ys + 1 ≤ most → (row_inserted h l x).answer ≡ Accepted
+  pub row_goes_on : (x : List Float) → length x ≡ (settings_of h).dim → length ys + 1 ≤ most → (row_inserted h l x).answer ≡ Ok tt
   unfolding row_inserted row_refusals row_asked row_shape_refusal insert_full_refusal unless settle changed
   row_goes_on x e room =
       let n = rest-total (calls_rest c) in
       rw (none-changed, eq-eqb (length x) (settings_of h).dim e, le-leb (total_of t.entries + 1) most (omega arith))
 
   pub batch_goes_on : (xs : List Float) → length xs % (settings_of h).dim ≡ 0 → length ys + length xs / (settings_of h).dim ≤ most
-      → (batch_inserted h l xs).answer ≡ Accepted
+      → (batch_inserted h l xs).answer ≡ Ok tt
   unfolding batch_inserted batch_refusals batch_asked rows_asked batch_shape_refusal insert_full_refusal unless settle changed
   batch_goes_on xs e room =
       let n = rest-total (calls_rest c) in
@@ -122,7 +121,7 @@ module _ {h₀ : Head} {fs₀ : List Float} {ls₀ : List ℕ} {h : Head} (l : L
   none_full true d e = refl
   none_full false d e = rw e
 
-  pub refit_goes_on : (xs : List Float) → length xs % (settings_of h).dim ≡ 0 → length xs / (settings_of h).dim ≤ most → (batch_refitted h l xs).answer ≡ Accepted
+  pub refit_goes_on : (xs : List Float) → length xs % (settings_of h).dim ≡ 0 → length xs / (settings_of h).dim ≤ most → (batch_refitted h l xs).answer ≡ Ok tt
   unfolding batch_refitted refit_refusals refit_asked rows_asked batch_shape_refusal refit_full_refusal unless settle changed
   refit_goes_on xs e room =
       let n = length xs / (settings_of h).dim in

@@ -1,5 +1,5 @@
 -- The promise at the end of any run over the rules: a tree that passes the check, and any accepted calls but creation, each on what the last one left.
-use Rattle.std.specs.Prelude.{ℕ, ◌+◌, ◌≤◌, ◌<◌, ◌⊎◌, Bool, cond, Float}
+use Rattle.std.specs.Prelude.{ℕ, ◌+◌, ◌≤◌, ◌<◌, ◌⊎◌, Bool, cond, Float, Ok}
 use Rattle.std.proofs.Math.Path.{◌≡◌, refl, subst}
 use Rattle.std.proofs.Common.{sym, ap, ◌∙◌, inl, inr}
 use Rattle.std.proofs.Math.Bool.{true, false}
@@ -34,14 +34,13 @@ use Rattle.laws.specs.Running.{Fine}
 use Rattle.rules.specs.Route.{Route}
 use Rattle.laws.specs.Refitting.Names.{Names}
 use Rattle.rules.specs.Rows.{inserted_all}
-use Rattle.rules.specs.declared.Verdict.TheVariants.{Passes}
 use Rattle.laws.specs.Resting.Rests.{rest-total}
 
 -- a run from a tree t₀ that passes the check: the tree that it leaves, the rows since the last effective refit with that refit's own,
 -- or since the start with those behind the entries of t₀, and whose each of these rows is.
 -- A row is a batch of one. Calls that change nothing are left out, and so are refused ones.
 pub data Run (s : Settings) (t₀ : Tree) : Tree → List Origin → List ℕ → Type 0 where
-  start : Binary64 t₀ → checked s t₀ ≡ Passes → Run s t₀ t₀ (origins_of t₀.entries) (standing 0 t₀.entries)
+  start : Binary64 t₀ → checked s t₀ ≡ Ok tt → Run s t₀ t₀ (origins_of t₀.entries) (standing 0 t₀.entries)
   insert : {t : Tree} {ys : List Origin} {a : List ℕ} (xs : List (List Float)) → total_of t.entries + length xs ≤ most → Run s t₀ t ys a
       → Run s t₀ (inserted_all s xs t) (ys ++ map called xs) (owners_all s xs t a)
   refit : {t : Tree} {ys : List Origin} {a : List ℕ} {way : Route} → Names s way → (xs : List (List Float)) → (0 < length t.entries → length xs ≤ most)

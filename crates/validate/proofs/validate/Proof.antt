@@ -4,13 +4,14 @@ use mathlib.Core.Bool.{true}
 use borrow.Author.Rules.{rules}
 use borrow.Author.Tests.{not-true, not-false, lt-ltb, le-ltb}
 use lib.ListN.{length, drop}
+use Rattle.head.specs.declared.refusal.Condition.TheVariants as C
 use Rattle.rules.specs.Slices.{tree_of}
 use Rattle.rules.specs.Tree.{Tree}
 use Rattle.rules.specs.Check.{rooted, merged_below, lowest, checked}
 use Rattle.arena.specs.Trees.{AnyFloats, Floats, Links}
 use Rattle.std.proofs.Common.{Some}
 use Rattle.tour.specs.Walking.{whole, even}
-use Prim.Native.Nat.{ℕ, suc, ◌≤◌, ◌<◌}
+use Prim.Native.Nat.{ℕ, ◌≤◌, ◌<◌}
 use mathlib.Core.List.{[]}
 use Rattle.validate.specs.Examined.{walked_once, tested, examined, checked-is, fails, holds}
 use Rattle.lists.specs.Lent.{ListsFit}
@@ -24,7 +25,7 @@ lent c = tree_of c.args.s c.args.n c.args.floats.now c.args.links.now
 
 -- the verdict is left to the conditions after the first k
 abbrev Met : ℕ → tie.Start → Type 0
-Met k c = checked c.args.s (lent c) ≡ lowest (suc k) (drop k (tested c.args.s (lent c)))
+Met k c = checked c.args.s (lent c) ≡ lowest (drop k (tested c.args.s (lent c)))
 
 -- ---- where each condition has passed
 
@@ -58,16 +59,16 @@ met-0 c =
 
 met-1 : (c : tie.Else-not-sized) → Met 1 (start-1 c)
 unfolding tested
-met-1 c = holds 1 _ _ (met-0 c.before.before) (sym (c.sized.ensures (start-1 c).args.floats.now (start-1 c).args.links.now) ∙ not-false
+met-1 c = holds C.Counts _ _ (met-0 c.before.before) (sym (c.sized.ensures (start-1 c).args.floats.now (start-1 c).args.links.now) ∙ not-false
     _ c.if-not-sized.false-raw)
 
 met-2 : (c : tie.Else-not-rooted) → Met 2 (start-2 c)
 unfolding tested
-met-2 c = holds 2 _ _ (met-1 c.before.before) (sym (c.rooted.ensures (start-2 c).args.floats.now) ∙ not-false _ c.if-not-rooted.false-raw)
+met-2 c = holds C.Root _ _ (met-1 c.before.before) (sym (c.rooted.ensures (start-2 c).args.floats.now) ∙ not-false _ c.if-not-rooted.false-raw)
 
 met-3 : (c : tie.Else-not-lists_fit) → Met 3 (start-3 c)
 unfolding tested
-met-3 c = holds 3 _ _ (met-2 c.before.before) (sym (c.lists_fit.ensures (start-3 c).args.floats.now) ∙ not-false _ c.if-not-lists_fit.false-raw)
+met-3 c = holds C.Lists _ _ (met-2 c.before.before) (sym (c.lists_fit.ensures (start-3 c).args.floats.now) ∙ not-false _ c.if-not-lists_fit.false-raw)
 
 -- the walk that is whole
 walked : (c : tie.In-Some) → walked_once (lent (start-4 c)) ≡ Some c.in-Some.depths
@@ -75,20 +76,20 @@ walked c = sym (c.walk_once.ensures (start-4 c).args.floats.now) ∙ c.in-Some.i
 
 met-4 : (c : tie.In-Some) → Met 4 (start-4 c)
 unfolding tested whole
-met-4 c = holds 4 _ _ (met-3 c.before.before) (ap whole (walked c))
+met-4 c = holds C.Links _ _ (met-3 c.before.before) (ap whole (walked c))
 
 met-5 : (c : tie.Else-not-filled) → Met 5 (start-5 c)
 unfolding tested
-met-5 c = holds 5 _ _ (met-4 c.before.before) (sym (c.filled.ensures (start-5 c).args.floats.now) ∙ not-false _ c.if-not-filled.false-raw)
+met-5 c = holds C.Filled _ _ (met-4 c.before.before) (sym (c.filled.ensures (start-5 c).args.floats.now) ∙ not-false _ c.if-not-filled.false-raw)
 
 met-6 : (c : tie.Else-not-level) → Met 6 (start-6 c)
 unfolding tested even
-met-6 c = holds 6 _ _ (met-5 c.before.before) (ap even (walked c.before.before.before.before) ∙ sym c.level.ensures ∙ not-false _
+met-6 c = holds C.Level _ _ (met-5 c.before.before) (ap even (walked c.before.before.before.before) ∙ sym c.level.ensures ∙ not-false _
     c.if-not-level.false-raw)
 
 met-7 : (c : tie.Else-not-summed) → Met 7 (start-7 c)
 unfolding tested
-met-7 c = holds 7 _ _ (met-6 c.before.before) (sym c.summed.ensures ∙ not-false _ c.if-not-summed.false-raw)
+met-7 c = holds C.Weights _ _ (met-6 c.before.before) (sym c.summed.ensures ∙ not-false _ c.if-not-summed.false-raw)
 
 -- ---- what they give to the code after them
 
@@ -124,7 +125,7 @@ listed c = λ fs. sym (c.lists_fit.ensures fs) ∙ not-false _ c.if-not-lists_fi
 
 returns : tie.Need-returns-then-not-sized
 unfolding tested
-returns c = fails 1 _ _ (met-0 c.before.before) (sym (c.sized.ensures c.args.floats.now
+returns c = fails C.Counts _ _ (met-0 c.before.before) (sym (c.sized.ensures c.args.floats.now
     c.args.links.now) ∙ not-true _ c.if-not-sized.true-raw)
 
 rooted-requires : tie.Need-rooted-requires
@@ -132,7 +133,7 @@ rooted-requires c κs = links c
 
 returns-2 : tie.Need-returns-then-not-rooted
 unfolding tested
-returns-2 c = fails 2 _ _ (met-1 c.before.before) (sym (c.rooted.ensures (start-1 c.before.before).args.floats.now) ∙ not-true _
+returns-2 c = fails C.Root _ _ (met-1 c.before.before) (sym (c.rooted.ensures (start-1 c.before.before).args.floats.now) ∙ not-true _
     c.if-not-rooted.true-raw)
 
 lists-fit-requires : tie.Need-lists_fit-requires
@@ -140,7 +141,7 @@ lists-fit-requires c κs = links c.before.before
 
 returns-3 : tie.Need-returns-then-not-lists_fit
 unfolding tested
-returns-3 c = fails 3 _ _ (met-2 c.before.before) (sym (c.lists_fit.ensures (start-2 c.before.before).args.floats.now) ∙ not-true _
+returns-3 c = fails C.Lists _ _ (met-2 c.before.before) (sym (c.lists_fit.ensures (start-2 c.before.before).args.floats.now) ∙ not-true _
     c.if-not-lists_fit.true-raw)
 
 walk-once-requires : tie.Need-walk_once-requires
@@ -148,7 +149,7 @@ walk-once-requires c κs = (links c.before.before.before.before, listed c, few c
 
 returns-4 : tie.Need-returns-in_default
 unfolding tested whole
-returns-4 c = fails 4 _ _ (met-3 c.before.before) (ap whole (sym (c.walk_once.ensures
+returns-4 c = fails C.Links _ _ (met-3 c.before.before) (ap whole (sym (c.walk_once.ensures
     (start-3 c.before.before).args.floats.now) ∙ c.in_default.is))
 
 filled-requires : tie.Need-filled-requires
@@ -156,12 +157,12 @@ filled-requires c κs = links c.before.before.before.before.before.before
 
 returns-5 : tie.Need-returns-then-not-filled
 unfolding tested
-returns-5 c = fails 5 _ _ (met-4 c.before.before) (sym (c.filled.ensures (start-4 c.before.before).args.floats.now) ∙ not-true _
+returns-5 c = fails C.Filled _ _ (met-4 c.before.before) (sym (c.filled.ensures (start-4 c.before.before).args.floats.now) ∙ not-true _
     c.if-not-filled.true-raw)
 
 returns-6 : tie.Need-returns-then-not-level
 unfolding tested even
-returns-6 c = fails 6 _ _ (met-5 c.before.before) (ap even (walked c.before.before.before.before) ∙ sym c.level.ensures ∙ not-true _
+returns-6 c = fails C.Level _ _ (met-5 c.before.before) (ap even (walked c.before.before.before.before) ∙ sym c.level.ensures ∙ not-true _
     c.if-not-level.true-raw)
 
 summed-requires : tie.Need-summed-requires
@@ -172,17 +173,17 @@ summed-requires c κs =
 
 returns-7 : tie.Need-returns-then-not-summed
 unfolding tested
-returns-7 c = fails 7 _ _ (met-6 c.before.before) (sym c.summed.ensures ∙ not-true _ c.if-not-summed.true-raw)
+returns-7 c = fails C.Weights _ _ (met-6 c.before.before) (sym c.summed.ensures ∙ not-true _ c.if-not-summed.true-raw)
 
 returns-8 : tie.Need-returns-then-n-s
 unfolding tested merged_below tree_of
-returns-8 c = let start = start-7 c.before.before.before in fails 8 _ _ (met-7 c.before.before.before)
+returns-8 c = let start = start-7 c.before.before.before in fails C.Merged _ _ (met-7 c.before.before.before)
     (le-ltb start.args.n.running.merged start.args.s.max_leaves c.if-n-s.true)
 
 returns-9 : tie.Need-returns
 unfolding tested merged_below tree_of lowest
 returns-9 c = let start = start-7 c.before.before.before in sym
-    (holds 8 _ [] (met-7 c.before.before.before) (lt-ltb start.args.n.running.merged start.args.s.max_leaves c.if-n-s.false))
+    (holds C.Merged _ [] (met-7 c.before.before.before) (lt-ltb start.args.n.running.merged start.args.s.max_leaves c.if-n-s.false))
 
 pub validate_spec : {M : Type 1} → statement M
 validate_spec = tie.close (tie.spec (λ c κs. search rules) returns rooted-requires returns-2 lists-fit-requires returns-3 walk-once-requires

@@ -1,0 +1,7 @@
+-- `export::change::cftree_insert_batch` meets its contract: what the call over values leaves, its head and answer in numbers.
+use mathlib.Core.Path.{sym}
+use Rattle.export.specs.Given.{left-numbers}
+use Rattle.export.proofs.change.cftree_insert_batch.Goals as goal
+
+pub returns : goal.returns
+returns c = rw (sym c.head_of-h.ensures) (left-numbers _ c.insert_batch-outcome.result c.outcome_numbers.ensures c.insert_batch-outcome.ensures)

@@ -277,7 +277,7 @@ module _ (s : Settings) (t : Tree) (u : Standing s t) where
           let lists : reverse (concat (map order (take (length list) list))) ++ (c ∷ rs) ≡ reverse (order c) ++ rs =
           ap (λ m. reverse (concat (map order m)) ++ (c ∷ rs)) (take_all (length list) list (omega arith))
           ∙ sym (ap (λ m. reverse m ++ rs) (order-inner c l e) ∙ turned_cons c (concat (map order list)) rs) in
-          subst (λ i. Backward t i (reverse (order c) ++ rs)) (sym (last_of_lem c l e ∙ at_last (length list) Some)) (subst (Backward t (node_before t c (length list))) lists all)
+          subst (λ i. Backward t i (reverse (order c) ++ rs)) (sym (last_of_lem c l e ∙ at_last (length list) some)) (subst (Backward t (node_before t c (length list))) lists all)
         where
           at_last : (n : ℕ) → 0 < n → last_of (get_or (node_at t c).list (n - 1) 0) ≡ node_before t c n
           at_last zero p = absurd (omega arith)

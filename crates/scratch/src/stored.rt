@@ -5,6 +5,7 @@ ghost use Rattle.scratch.specs.Stored.{pair_at, PairFits, Room, Put};
 use rules::Pair;
 
 // Pair k.
+#[tactic(auto, unfolding(crate::specs::Stored::pair_at, crate::specs::Stored::PairFits))]
 pub fn pair(costs: &[f64], numbers: &[u32], k: usize) -> Pair
     requires { Room (k + 1) (length costs.now) (length numbers.now) }
     ensures { (result ≡ pair_at costs.now numbers.now k) × PairFits result }
@@ -18,6 +19,7 @@ pub fn pair(costs: &[f64], numbers: &[u32], k: usize) -> Pair
 }
 
 // Pair k becomes p.
+#[tactic(auto, unfolding(crate::specs::Stored::PairFits))]
 pub fn put(costs: &mut [f64], numbers: &mut [u32], k: usize, p: Pair)
     requires { Room (k + 1) (length costs.old) (length numbers.old) × PairFits p }
     ensures { Put k p costs.old numbers.old costs.new numbers.new }

@@ -15,6 +15,7 @@ use head::{Counters, Settings};
 use seen::Seen;
 
 // How many entries node i lists.
+#[tactic(auto, unfolding(lists::specs::Lent::leaf_list))]
 fn leaf_len(s: Settings, n: Counters, links: &[u32], i: usize) -> usize
     requires { Links s n (length links.now) × (i < n.nodes) }
     ensures { AnyFloats s n links.now (λ t. result ≡ length (leaf_list (node_at t i))) }

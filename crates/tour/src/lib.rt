@@ -71,6 +71,7 @@ fn next(s: Settings, n: Counters, links: &[u32], i: usize, k: usize) -> Step
 }
 
 // The depths with node i in them, met at depth d.
+#[tactic(auto, unfolding(crate::specs::Walking::meeting))]
 fn meet(s: Settings, n: Counters, links: &[u32], i: usize, d: usize, depths: Depths) -> Depths
     requires { Links s n (length links.now) × (i < n.nodes) }
     ensures { AnyFloats s n links.now (λ t. result ≡ meeting t i d depths) }

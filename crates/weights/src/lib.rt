@@ -65,6 +65,7 @@ fn weight_listed(s: Settings, n: Counters, floats: &[f64], links: &[u32], i: usi
 }
 
 // Whether node i weighs what its list weighs.
+#[tactic(auto, unfolding(crate::specs::Adding::adds_up))]
 fn adds_up(s: Settings, n: Counters, floats: &[f64], links: &[u32], i: usize) -> bool
     requires { Weighable s n floats.now links.now × (i < n.nodes) }
     ensures { result ≡ adds_up (tree_of s n floats.now links.now) i }

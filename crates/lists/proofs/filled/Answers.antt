@@ -1,3 +1,4 @@
+-- `lists::filled` meets its contract: each node is asked.
 use Rattle.std.proofs.Common.{rules, ◌∙◌, ltb, ◌&&◌, ◌||◌, length}
 use Rattle.rules.specs.Tree.{Tree, node_at}
 use Rattle.rules.specs.Check.{lone_root, filled}

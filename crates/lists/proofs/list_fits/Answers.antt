@@ -15,4 +15,5 @@ returns-then-list_len-cap c = λ fs.
 
 pub returns-else-list_len-cap : goal.returns-else-list_len-cap
 unfolding list_fits
-returns-else-list_len-cap c = λ fs. rw (← c.list_len.ensures fs, ← c.is_leaf-leaf.ensures fs, ← c.cap.ensures, lt-leb c.list_len.result c.cap.result c.if-list_len-cap.false)
+returns-else-list_len-cap c = λ fs.
+    rw (← c.list_len.ensures fs, ← c.is_leaf-leaf.ensures fs, ← c.cap.ensures, lt-leb c.list_len.result c.cap.result c.if-list_len-cap.false)

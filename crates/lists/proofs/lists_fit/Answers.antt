@@ -1,3 +1,4 @@
+-- `lists::lists_fit` meets its contract: each list is asked.
 use Rattle.std.proofs.Common.{rules, ◌∙◌}
 use Rattle.rules.specs.Tree.{Tree, node_at}
 use Rattle.rules.specs.Check.{list_fits}

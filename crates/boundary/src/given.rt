@@ -79,7 +79,8 @@ fn refusal_numbers(r: Refusal) -> AnswerNumbers
     match r {
         Refusal::Tree(condition) => with_values(number, u64::from(u32::from(condition)), 0),
         Refusal::Shape(dim, length) => with_values(number, dim as u64, length as u64),
-        Refusal::Settings | Refusal::Room | Refusal::Empty | Refusal::Full | Refusal::Output => only(number),
+        Refusal::Settings | Refusal::Room | Refusal::Empty | Refusal::Full | Refusal::Output =>
+            only(number),
     }
 }
 

@@ -1,5 +1,5 @@
 -- What a call over numbers gives back and leaves in the lent slices: the rules' outcome, its head and answer in numbers.
-use Rattle.std.specs.Prelude.{ℕ, ◌≡◌, true, false, cond, List, Float, Result, Ok, Err}
+use Rattle.std.specs.Prelude.{ℕ, ◌≡◌, refl, Bool, true, false, cond, List, Float, Result, Ok, Err}
 use Rattle.std.proofs.Common.{ap}
 use Rattle.head.specs.Heads.{settings_of}
 use Rattle.head.specs.Limits.{allowed}
@@ -60,11 +60,11 @@ made-numbers h (Err r) p q = rw p (ap made_numbers q)
 unfoldable pub needed : (Settings → ℕ) → Head → ℕ
 needed formula h = cond (allowed h) (formula (settings_of h)) 0
 
-module _ (formula : Settings → ℕ) {g h : Head} (e : g ≡ h) where
-  pub none_needed : allowed g ≡ false → 0 ≡ needed formula h
-  unfolding needed
-  none_needed n = rw (← e, n)
-
-  pub some-needed : allowed g ≡ true → formula (settings_of g) ≡ needed formula h
-  unfolding needed
-  some-needed y = rw (← e, y)
+pub needed_told : (formula : Settings → ℕ) (h : Head) {n : ℕ} → (allowed h ≡ false → n ≡ 0) → (allowed h ≡ true → n ≡ formula (settings_of h))
+    → n ≡ needed formula h
+unfolding needed
+needed_told formula h {n} outside inside = go (allowed h) refl
+  where
+    go : (b : Bool) → allowed h ≡ b → n ≡ cond b (formula (settings_of h)) 0
+    go true e = inside e
+    go false e = outside e

@@ -21,7 +21,7 @@ nonzero_div-rows c = (allowed-sized _ (batch-taken _ _ _ (sym c.in_ok-batch.ensu
 
 pub change-requires : goal.change-requires
 unfolding settings_of
-change-requires c = 
+change-requires c =
     let a = batch-taken _ _ _ (sym c.in_ok-batch.ensures) in
     record { ready = (a.ready, rows_in _ _); workable = insertable _ _ a.ready nan (search rules) _ a.room }
 

@@ -14,12 +14,12 @@ unfolding row_inserted
 returns-in_err-row c = refused_as_lent _ _ _ _ _ c.from_residual.ensures.1 c.in_err-row.ensures
 
 pub change-requires : goal.change-requires
-change-requires c = 
+change-requires c =
     let a = row_taken _ _ _ (sym c.in_ok-row.ensures) in
     record { ready = (a.ready, (let wide = a.shape in omega arith)); workable = insertable _ _ a.ready nan (search rules) 1 a.room }
 
 pub returns : goal.returns
 unfolding row_inserted
-returns c = 
+returns c =
     let a = row_taken _ _ _ (sym c.in_ok-row.ensures) in
     done_as_ruled _ _ _ _ c.in_ok-row.ensures (c.change.ensures ∙ ap (changed _ _) (one_row _ _ _ a.shape))

@@ -21,7 +21,7 @@ nonzero_div-rows c = (allowed-sized _ (refit_taken _ _ _ (sym c.in_ok-refit.ensu
 
 pub change-requires : goal.change-requires
 unfolding settings_of
-change-requires c = 
+change-requires c =
     let a = refit_taken _ _ _ (sym c.in_ok-refit.ensures) in
     record { ready = (a.ready, rows_in _ _); workable = refittable _ _ a.ready nan (search rules) _ a.room }
 

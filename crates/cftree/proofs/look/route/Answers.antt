@@ -16,7 +16,7 @@ nonzero_div-rows c = rw c.settings-s.ensures (route_taken _ _ _ _ _ (sym c.in_ok
 
 pub write_routes-requires : goal.write_routes-requires
 unfolding lent_tree
-write_routes-requires c = 
+write_routes-requires c =
     let a = c.args in
     let g = route_taken _ _ _ _ _ (sym c.in_ok-route.ensures) in
     let seen = readable_seen a.h a.floats.now a.links.now g.readable in

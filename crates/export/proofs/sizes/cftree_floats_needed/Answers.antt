@@ -1,0 +1,7 @@
+-- `export::sizes::cftree_floats_needed` meets its contract: 0 where the head is not allowed, else the formula.
+use Rattle.boundary.specs.Numbers.{head_of}
+use Rattle.export.specs.Given.{needed_told}
+use Rattle.export.proofs.sizes.cftree_floats_needed.Goals as goal
+
+pub returns : goal.returns
+returns c = needed_told _ (head_of c.args.h) c.needed.ensures.outside (λ e. (c.needed.ensures.inside e).1)

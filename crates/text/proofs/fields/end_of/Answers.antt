@@ -12,5 +12,5 @@ returns c =
     let from = c.args.from in
     let rest = take (length line - from) (drop from line) in
     let found = position_from_yields_List (λ b. eqb b 9) _ _ c.position.result c.position.ensures.ran (YieldsList-from_slice rest (cc))
-        (λ x b q k. search (rules, tests)) in
+    (λ x b q k. search (rules, tests)) in
     ap (λ n. from + n) (c.unwrap_or.ensures ∙ tab-found rest _ found ∙ ap tab_at (between_to_end line from (length line) (omega arith)))

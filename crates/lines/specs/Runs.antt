@@ -2,7 +2,6 @@
 use Rattle.std.specs.Prelude.{ℕ, ◌+◌, ◌-◌, ◌≤◌, ◌<◌, false, List, [], ◌∷◌, ◌++◌, reverse, ◌≡◌, refl, length, get_or, take, drop, Float}
 use Rattle.std.proofs.Common.{append_assoc, ◌∙◌, arith, add-one, length-drop, take-suc, take_all, take-take, take-add, length-take-le}
 use Rattle.std.proofs.Math.Path.{sym, ap, subst}
-use Rattle.std.proofs.Math.Nat.{sub-zero}
 use Rattle.head.specs.declared.Head.{Head}
 use Rattle.head.specs.Heads.{settings_of}
 use Rattle.rules.specs.Tree.{Tree}
@@ -160,11 +159,9 @@ module _ (r : Run) (st : Stage) (e : r.stage ≡ st) (fs : List Float) (ks : Lis
   pub stage_stands : Stands r.stage r fs ks → Stands st r fs ks
   stage_stands k = subst (λ (st : Stage). Stands st r fs ks) e k
 
-  pub stage_read : (line : List ℕ) {q : Run} {gs : List Float} {js : List ℕ} → LineRead (printed_of st r fs ks) (take (r.long - 0) line) q gs js
+  pub stage_read : (line : List ℕ) {q : Run} {gs : List Float} {js : List ℕ} → LineRead (printed_of st r fs ks) (take r.long line) q gs js
       → LineRead (printed_of r.stage r fs ks) (take r.long line) q gs js
-  stage_read line {q} {gs} {js} w =
-      subst (λ (st : Stage). LineRead (printed_of st r fs ks) (take r.long line) q gs js) (sym e)
-      (subst (λ n. LineRead (printed_of st r fs ks) (take n line) q gs js) (sub-zero r.long) w)
+  stage_read line {q} {gs} {js} w = subst (λ (st : Stage). LineRead (printed_of st r fs ks) (take r.long line) q gs js) (sym e) w
 
 pub line_reading : {before : List (List ℕ) → List ℕ} {l : List ℕ} {r : Run} {fs : List Float} {ks : List ℕ} → LineRead before l r fs ks → Reading r fs ks
 line_reading w = record { short = (let e = w.none_left in omega arith); stands = w.stands }

@@ -1,15 +1,14 @@
 // The links of the tree's nodes, said of the tree that the slices hold.
-ghost use Rattle.std.specs.Prelude.{◌≡◌, ◌+◌, ◌≤◌, ◌<◌, length, get_or, take};
+ghost use Rattle.std.specs.Prelude.{◌≡◌, ◌+◌, ◌≤◌, ◌<◌, length, get_or};
 ghost use Rattle.head.specs.Sizes.{block_width};
 ghost use Rattle.rules.specs.Tree.{node_at, adding, with_list, under};
 ghost use Rattle.rules.specs.Slices.{block_at, no_parent};
-ghost use Rattle.stretch.specs.Blocks.{parent_of, ParentFits, relinked};
+ghost use Rattle.stretch.specs.Blocks.{ParentFits, relinked};
 ghost use Rattle.arena.specs.Numbered.{BlockIn, Relinked};
 ghost use Rattle.arena.specs.Trees.{AnyFloats, LinksTo, Links, on_node};
 
 use head::{Counters, Settings};
 use stretch::block;
-use stretch::block::Parent;
 
 // The links of block i.
 fn part(s: Settings, links: &[u32], i: usize) -> &[u32]
@@ -29,10 +28,10 @@ pub fn is_leaf(s: Settings, n: Counters, links: &[u32], i: usize) -> bool
     block::is_leaf(s, part(s, links, i))
 }
 
-// The parent of node i.
-pub fn parent(s: Settings, n: Counters, links: &[u32], i: usize) -> Parent
+// The parent of node i, if it has one.
+pub fn parent(s: Settings, n: Counters, links: &[u32], i: usize) -> Option<usize>
     requires { Links s n (length links.now) × (i < n.nodes) }
-    ensures { AnyFloats s n links.now (λ t. parent_of result ≡ (node_at t i).parent) }
+    ensures { AnyFloats s n links.now (λ t. result ≡ (node_at t i).parent) }
 {
     block::parent_of(s, part(s, links, i))
 }
@@ -61,32 +60,31 @@ pub fn list_at(s: Settings, n: Counters, links: &[u32], i: usize, k: usize) -> u
     block::list_at(s, part(s, links, i), k)
 }
 
-// The links of block i: a parent, a kind, and the first len of a list.
+// The links of block i: a parent, a kind and a list.
 pub fn link(
     s: Settings,
     links: &mut [u32],
     i: usize,
-    parent: Parent,
+    parent: Option<usize>,
     leaf: bool,
     list: &[u32],
-    len: usize,
 )
-    requires { BlockIn s i (length links.old) × ParentFits parent × (len + 2 ≤ block_width s) × (len ≤ length list.now) }
-    ensures { Relinked s (relinked (parent_of parent) leaf (take len list.now)) i links.old links.new }
+    requires { BlockIn s i (length links.old) × ParentFits parent × (length list.now + 2 ≤ block_width s) }
+    ensures { Relinked s (relinked parent leaf list.now) i links.old links.new }
 {
     let w = s.block_width();
     let at = i * w;
-    block::link(s, parent, leaf, list, len, &mut links[at..at + w]);
+    block::link(s, parent, leaf, list, &mut links[at..at + w]);
 }
 
-// The list of node i becomes the first len of a list.
-pub fn set_list(s: Settings, n: Counters, links: &mut [u32], i: usize, list: &[u32], len: usize)
-    requires { Links s n (length links.old) × (i < n.nodes) × (len + 2 ≤ block_width s) × (len ≤ length list.now) }
-    ensures { LinksTo s n links.old n links.new (on_node (with_list (take len list.now)) i) }
+// A list becomes node i's.
+pub fn set_list(s: Settings, n: Counters, links: &mut [u32], i: usize, list: &[u32])
+    requires { Links s n (length links.old) × (i < n.nodes) × (length list.now + 2 ≤ block_width s) }
+    ensures { LinksTo s n links.old n links.new (on_node (with_list list.now) i) }
 {
     let w = s.block_width();
     let at = i * w;
-    block::set_list(s, list, len, &mut links[at..at + w]);
+    block::set_list(s, list, &mut links[at..at + w]);
 }
 
 // Node i goes under node p.

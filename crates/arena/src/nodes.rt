@@ -1,12 +1,12 @@
 // The summaries of the tree's nodes, said of the tree that the slices hold.
-ghost use Rattle.std.specs.Prelude.{◌≡◌, ◌+◌, ◌≤◌, ◌<◌, length, take};
+ghost use Rattle.std.specs.Prelude.{◌≡◌, ◌+◌, ◌≤◌, ◌<◌, length};
 ghost use Rattle.feature.specs.Shape.{Shaped};
 ghost use Rattle.distance.specs.Distances.{point_of, between_of};
 ghost use Rattle.head.specs.Sizes.{node_cap, block_width};
 ghost use Rattle.head.specs.Counting.{count_nodes};
 ghost use Rattle.rules.specs.Tree.{push, merge, node_at, summed};
 ghost use Rattle.rules.specs.Slices.{summary_in, tree_of};
-ghost use Rattle.stretch.specs.Blocks.{parent_of, ParentFits, node_of};
+ghost use Rattle.stretch.specs.Blocks.{ParentFits, node_of};
 ghost use Rattle.stretch.specs.Slots.{Slot};
 ghost use Rattle.arena.specs.Trees.{AnyLinks, FloatsTo, Floats, Links, on_node, with_node};
 
@@ -14,7 +14,6 @@ use crate::{links, slots};
 use distance::Distance;
 use feature::Summary;
 use head::{Counters, Settings};
-use stretch::block::Parent;
 
 // The summary of node i.
 pub fn summary(s: Settings, n: Counters, floats: &[f64], i: usize) -> Summary
@@ -87,26 +86,25 @@ pub fn merge(s: Settings, n: Counters, floats: &mut [f64], i: usize, c: Summary)
     slots::merge(s, floats, i, c);
 }
 
-// A node more, last in number: the summary c, a parent, a kind, and the first len of a list.
+// A node more, last in number: the summary c, a parent, a kind and a list.
 pub fn append(
     s: Settings,
     n: Counters,
     floats: &mut [f64],
     links: &mut [u32],
     c: Summary,
-    parent: Parent,
+    parent: Option<usize>,
     leaf: bool,
     list: &[u32],
-    len: usize,
 ) -> Counters
     requires floats { Floats s n (length floats.old) × Links s n (length links.old) × (n.nodes < node_cap s) × Shaped s.feature s.dim c }
-    requires parent_fits { ParentFits parent × (len + 2 ≤ block_width s) × (len ≤ length list.now) }
+    requires parent_fits { ParentFits parent × (length list.now + 2 ≤ block_width s) }
     ensures value { result ≡ count_nodes (n.nodes + 1) n }
     ensures links_after { tree_of s result floats.new links.new
-        ≡ with_node (node_of c (parent_of parent) leaf (take len list.now)) (tree_of s n floats.old links.old) }
+        ≡ with_node (node_of c parent leaf list.now) (tree_of s n floats.old links.old) }
 {
     let i = n.nodes;
     slots::store(s, floats, i, c);
-    links::link(s, links, i, parent, leaf, list, len);
+    links::link(s, links, i, parent, leaf, list);
     n.with_nodes(i + 1)
 }

@@ -1,8 +1,7 @@
 -- The lists of a tree that is sure name what is there; and a tree stays sure when an item goes along a path.
-use Rattle.std.specs.Prelude.{ℕ, ◌<◌, ◌≡◌, Bool, List, length, get_or, Float}
+use Rattle.std.specs.Prelude.{ℕ, ◌<◌, ◌≡◌, Bool, List, length, get_or, Float, Some}
 use Rattle.std.proofs.Math.Path.{refl}
 use Rattle.std.proofs.Math.Bool.{true, false}
-use Rattle.std.proofs.Math.Option.{some}
 use Rattle.feature.specs.declared.Summary.{Summary}
 use Rattle.head.specs.declared.Settings.{Settings}
 use Rattle.head.specs.declared.Counters.{Counters}
@@ -39,7 +38,7 @@ module _ (s : Settings) (n : Counters) (fs : List Float) (ls : List ℕ) (w : Su
   pub list_filled : (node_at (tree_of s n fs ls) i).leaf ≡ false → 0 < length (node_at (tree_of s n fs ls) i).list
   list_filled e = w.filled i there e
 
-  pub parent_there : (p : ℕ) → (node_at (tree_of s n fs ls) i).parent ≡ some p → p < n.nodes
+  pub parent_there : (p : ℕ) → (node_at (tree_of s n fs ls) i).parent ≡ Some p → p < n.nodes
   parent_there p e = rw (count_nodes_lem s n fs ls) at (w.parent_in i p there e)
 
 pub root_there : (s : Settings) (n : Counters) (fs : List Float) (ls : List ℕ) → Sure s (tree_of s n fs ls) → n.root < n.nodes
@@ -51,7 +50,7 @@ root_there s n fs ls w = rw (count_nodes_lem s n fs ls) at w.root_in
 module _ (F : Summary → Summary) (l : ℕ) (t : Tree) where
   pub path_parent : (k : ℕ) → (node_at (along_path F l t) k).parent ≡ (node_at t k).parent
   unfolding along_path with_nodes node_at summed
-  path_parent k = climb_keeps F (λ m. m.parent) (λ m. refl) (length t.nodes) (some l) t.nodes k
+  path_parent k = climb_keeps F (λ m. m.parent) (λ m. refl) (length t.nodes) (Some l) t.nodes k
 
   pub path_root : (along_path F l t).root ≡ t.root
   unfolding along_path with_nodes

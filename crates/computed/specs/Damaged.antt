@@ -1,6 +1,5 @@
 -- Small trees, whole and damaged, and the lowest condition of the tree check that each fails. One channel, entries of weight 1 unless said.
-use Rattle.std.specs.Prelude.{ℕ, ◌≡◌, refl, true, false, List, [], ◌∷◌, map, replicate}
-use Rattle.std.proofs.Math.Option.{Option, none, some}
+use Rattle.std.specs.Prelude.{ℕ, ◌≡◌, refl, true, false, List, [], ◌∷◌, map, replicate, Option, None, Some}
 use Rattle.std.specs.Float.Ieee.{neg}
 use Rattle.binary64.specs.Operators.{f0, f1, ◌⊘◌}
 use Rattle.binary64.specs.Whole.{whole}
@@ -44,13 +43,13 @@ verdicts s ts = map (checked s) ts
 
 -- leaves 0 and 1 under root 2
 abbrev two_leaves : ℕ → List ℕ → ℕ → List ℕ → ℕ → List Node
-two_leaves m ks n ls w = leaf m ks (some 2) ∷ leaf n ls (some 2) ∷ inner w (0 ∷ 1 ∷ []) none ∷ []
+two_leaves m ks n ls w = leaf m ks (Some 2) ∷ leaf n ls (Some 2) ∷ inner w (0 ∷ 1 ∷ []) None ∷ []
 
 -- a new tree, whose root may weigh −0.0; one entry; two leaves
 whole_trees : verdicts (with 2 4)
     (fresh f0
-    ∷ tree (record { summary = record { weight = neg f0; mean = blank.mean; deviation = blank.deviation }; list = []; leaf = true; parent = none } ∷ []) [] 0
-    ∷ tree (leaf 1 (0 ∷ []) none ∷ []) (ones 1) 0
+    ∷ tree (record { summary = record { weight = neg f0; mean = blank.mean; deviation = blank.deviation }; list = []; leaf = true; parent = None } ∷ []) [] 0
+    ∷ tree (leaf 1 (0 ∷ []) None ∷ []) (ones 1) 0
     ∷ tree (two_leaves 2 (0 ∷ 2 ∷ []) 1 (1 ∷ []) 3) (ones 3) 2
     ∷ [])
     ≡ Passes ∷ Passes ∷ Passes ∷ Passes ∷ []
@@ -60,40 +59,40 @@ whole_trees = refl
 -- 1: no node; more entries than M. 2: the root is not there; it has a parent
 counts_and_root : verdicts (with 2 1)
     (tree [] [] 0
-    ∷ tree (leaf 2 (0 ∷ 1 ∷ []) none ∷ []) (ones 2) 0
-    ∷ tree (leaf 1 (0 ∷ []) none ∷ []) (ones 1) 1
-    ∷ tree (leaf 1 (0 ∷ []) (some 0) ∷ []) (ones 1) 0
+    ∷ tree (leaf 2 (0 ∷ 1 ∷ []) None ∷ []) (ones 2) 0
+    ∷ tree (leaf 1 (0 ∷ []) None ∷ []) (ones 1) 1
+    ∷ tree (leaf 1 (0 ∷ []) (Some 0) ∷ []) (ones 1) 0
     ∷ [])
     ≡ Fails 1 ∷ Fails 1 ∷ Fails 2 ∷ Fails 2 ∷ []
 unfolding computes
 counts_and_root = refl
 
 -- 3: a list over its cap; an entry that is not there
-lists : verdicts (with 1 4) (tree (leaf 2 (0 ∷ 1 ∷ []) none ∷ []) (ones 2) 0 ∷ tree (leaf 1 (1 ∷ []) none ∷ []) (ones 1) 0 ∷ []) ≡ Fails 3 ∷ Fails 3 ∷ []
+lists : verdicts (with 1 4) (tree (leaf 2 (0 ∷ 1 ∷ []) None ∷ []) (ones 2) 0 ∷ tree (leaf 1 (1 ∷ []) None ∷ []) (ones 1) 0 ∷ []) ≡ Fails 3 ∷ Fails 3 ∷ []
 unfolding computes
 lists = refl
 
 -- 4: a node that nobody lists; an entry that no leaf lists; an entry under two leaves, its rows counted double in every weight; a child that names another
 links : verdicts (with 2 4)
-    (tree (leaf 1 (0 ∷ []) none ∷ leaf 0 [] none ∷ []) (ones 1) 0
-    ∷ tree (leaf 1 (0 ∷ []) none ∷ []) (ones 2) 0
+    (tree (leaf 1 (0 ∷ []) None ∷ leaf 0 [] None ∷ []) (ones 1) 0
+    ∷ tree (leaf 1 (0 ∷ []) None ∷ []) (ones 2) 0
     ∷ tree (two_leaves 2 (0 ∷ 1 ∷ []) 2 (2 ∷ 0 ∷ []) 4) (ones 3) 2
-    ∷ tree (leaf 1 (0 ∷ []) (some 2) ∷ leaf 1 (1 ∷ []) (some 0) ∷ inner 2 (0 ∷ 1 ∷ []) none ∷ []) (ones 2) 2
+    ∷ tree (leaf 1 (0 ∷ []) (Some 2) ∷ leaf 1 (1 ∷ []) (Some 0) ∷ inner 2 (0 ∷ 1 ∷ []) None ∷ []) (ones 2) 2
     ∷ [])
     ≡ Fails 4 ∷ Fails 4 ∷ Fails 4 ∷ Fails 4 ∷ []
 unfolding computes
 links = refl
 
 -- 5: a leaf with nothing in it beside one with an entry; a lone inner root
-empty_lists : verdicts (with 2 4) (tree (two_leaves 1 (0 ∷ []) 0 [] 1) (ones 1) 2 ∷ tree (inner 0 [] none ∷ []) [] 0 ∷ []) ≡ Fails 5 ∷ Fails 5 ∷ []
+empty_lists : verdicts (with 2 4) (tree (two_leaves 1 (0 ∷ []) 0 [] 1) (ones 1) 2 ∷ tree (inner 0 [] None ∷ []) [] 0 ∷ []) ≡ Fails 5 ∷ Fails 5 ∷ []
 unfolding computes
 empty_lists = refl
 
 -- 6: a root over one leaf; a leaf beside an inner node over three
 levels : verdicts (with 1 4)
-    (tree (leaf 1 (0 ∷ []) (some 1) ∷ inner 1 (0 ∷ []) none ∷ []) (ones 1) 1
-    ∷ tree (inner 4 (1 ∷ 2 ∷ []) none ∷ leaf 1 (0 ∷ []) (some 0) ∷ inner 3 (3 ∷ 4 ∷ 5 ∷ []) (some 0)
-    ∷ leaf 1 (1 ∷ []) (some 2) ∷ leaf 1 (2 ∷ []) (some 2) ∷ leaf 1 (3 ∷ []) (some 2) ∷ []) (ones 4) 0
+    (tree (leaf 1 (0 ∷ []) (Some 1) ∷ inner 1 (0 ∷ []) None ∷ []) (ones 1) 1
+    ∷ tree (inner 4 (1 ∷ 2 ∷ []) None ∷ leaf 1 (0 ∷ []) (Some 0) ∷ inner 3 (3 ∷ 4 ∷ 5 ∷ []) (Some 0)
+    ∷ leaf 1 (1 ∷ []) (Some 2) ∷ leaf 1 (2 ∷ []) (Some 2) ∷ leaf 1 (3 ∷ []) (Some 2) ∷ []) (ones 4) 0
     ∷ [])
     ≡ Fails 6 ∷ Fails 6 ∷ []
 unfolding computes
@@ -101,9 +100,9 @@ levels = refl
 
 -- 7: an entry of weight 0.5; of weight 0; a leaf, and a root, that do not weigh their entries' sum
 weights : verdicts (with 2 4)
-    (tree (leaf 1 (0 ∷ []) none ∷ []) (half ∷ []) 0
-    ∷ tree (leaf 0 (0 ∷ []) none ∷ []) (weighing 0 ∷ []) 0
-    ∷ tree (leaf 2 (0 ∷ []) none ∷ []) (ones 1) 0
+    (tree (leaf 1 (0 ∷ []) None ∷ []) (half ∷ []) 0
+    ∷ tree (leaf 0 (0 ∷ []) None ∷ []) (weighing 0 ∷ []) 0
+    ∷ tree (leaf 2 (0 ∷ []) None ∷ []) (ones 1) 0
     ∷ tree (two_leaves 1 (0 ∷ []) 1 (1 ∷ []) 3) (ones 2) 2
     ∷ [])
     ≡ Fails 7 ∷ Fails 7 ∷ Fails 7 ∷ Fails 7 ∷ []
@@ -113,7 +112,7 @@ weights = refl
 -- 8: a merged total of M; one below it passes
 abbrev with-merged : ℕ → Tree
 with-merged n =
-    record { nodes = leaf 1 (0 ∷ []) none ∷ []; entries = ones 1; root = 0; running = record { threshold = f0; rebuilds = 0; merged = n } }
+    record { nodes = leaf 1 (0 ∷ []) None ∷ []; entries = ones 1; root = 0; running = record { threshold = f0; rebuilds = 0; merged = n } }
 
 merged-total : verdicts (with 2 2) (with-merged 2 ∷ with-merged 1 ∷ []) ≡ Fails 8 ∷ Passes ∷ []
 unfolding computes

@@ -1,6 +1,5 @@
 -- What public calls answer and leave of small lent slices, word by word, computed: dim 2, branching 2, leaf_cap 1, M 1.
-use Rattle.std.specs.Prelude.{ℕ, ◌≡◌, refl, List, [], ◌∷◌, ◌++◌, map, replicate, Float}
-use Rattle.std.proofs.Math.Option.{some}
+use Rattle.std.specs.Prelude.{ℕ, ◌≡◌, refl, List, [], ◌∷◌, ◌++◌, map, replicate, Float, Some}
 use Rattle.std.specs.Float.{binary64}
 use Rattle.std.specs.Float.Ieee.{of_bits}
 use Rattle.binary64.specs.Operators.{f0, f1}
@@ -74,9 +73,9 @@ scratch_after = (replicate 10 0 ++ (0x4000_0000_0000_0000 ∷ [])) ∷ (replicat
 choices_seen : (map feature_at (0 ∷ 1 ∷ []) ≡ Spherical ∷ Diagonal ∷ [])
     × (map distance_at (0 ∷ 1 ∷ 2 ∷ 3 ∷ 4 ∷ 5 ∷ [])
     ≡ CentroidEuclidean ∷ CentroidManhattan ∷ AverageIntercluster ∷ AverageIntracluster ∷ VarianceIncrease ∷ Radius ∷ [])
-    × (map (λ w. feature_word (bytes w)) ("spherical" ∷ "diagonal" ∷ []) ≡ some 0 ∷ some 1 ∷ [])
+    × (map (λ w. feature_word (bytes w)) ("spherical" ∷ "diagonal" ∷ []) ≡ Some 0 ∷ Some 1 ∷ [])
     × (map (λ w. distance_word (bytes w)) ("euclidean" ∷ "manhattan" ∷ "inter" ∷ "intra" ∷ "increase" ∷ "radius" ∷ [])
-    ≡ some 0 ∷ some 1 ∷ some 2 ∷ some 3 ∷ some 4 ∷ some 5 ∷ [])
+    ≡ Some 0 ∷ Some 1 ∷ Some 2 ∷ Some 3 ∷ Some 4 ∷ Some 5 ∷ [])
 unfolding computes
 choices_seen = (refl, refl, refl, refl)
 

@@ -1,8 +1,7 @@
 -- The way down and the way up, one step at a time.
 use Prim.Native.Nat.{ℕ, zero, suc, ◌-◌, ◌<◌}
-use Rattle.std.specs.Prelude.{◌≡◌, true, false, List, length, Float}
+use Rattle.std.specs.Prelude.{◌≡◌, true, false, List, length, Float, Option, None, Some}
 use Rattle.std.proofs.Math.Path.{refl}
-use Rattle.std.proofs.Math.Option.{Option, none, some}
 use native.Mathlib.Omega.{arith}
 use Rattle.feature.specs.declared.Summary.{Summary}
 use Rattle.head.specs.declared.Settings.{Settings}
@@ -42,18 +41,17 @@ unfoldable pub climbed_from : (Summary → Summary) → ℕ → Option ℕ → T
 climbed_from f k o t = with_nodes (climbed f k o t.nodes) t
 
 module _ (f : Summary → Summary) where
-  pub up_start : (k i : ℕ) (t : Tree) → length t.nodes ≡ k → climbed_from f k (some i) t ≡ along_path f i t
+  pub up_start : (k i : ℕ) (t : Tree) → length t.nodes ≡ k → climbed_from f k (Some i) t ≡ along_path f i t
   unfolding climbed_from along_path
   up_start k i t e = rw e
 
   -- u is the tree with node i changed, o the parent that it has in t
-  pub up_on : (k i : ℕ) (t u : Tree) (o : Option ℕ) → 0 < k → u ≡ on_node (summed f) i t → o ≡ (node_at t i).parent
-      → climbed_from f (k - 1) o u ≡ climbed_from f k (some i) t
+  pub up_on : (k j i : ℕ) (t u : Tree) (o : Option ℕ) → k ≡ suc j → u ≡ on_node (summed f) i t → o ≡ (node_at t i).parent
+      → climbed_from f j o u ≡ climbed_from f k (Some i) t
   unfolding climbed_from climbed on_node with_nodes node_at
-  up_on zero i t u o l p q = absurd (omega arith)
-  up_on (suc k) i t u o l p q = let e : suc k - 1 ≡ k = omega arith in rw (p, q, e)
+  up_on k j i t u o l p q = rw (p, q, l)
 
-  pub up_top : (k : ℕ) (t : Tree) → climbed_from f k none t ≡ t
+  pub up_top : (k : ℕ) (t : Tree) → climbed_from f k None t ≡ t
   unfolding climbed_from climbed with_nodes
   up_top zero t = refl
   up_top (suc k) t = refl

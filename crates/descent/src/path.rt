@@ -10,7 +10,6 @@ use crate::form;
 use crate::form::Form;
 use arena::links;
 use head::{Counters, Settings};
-use stretch::block::Parent;
 
 // An item goes into every node from a leaf up to the root.
 pub fn feed_path(
@@ -28,13 +27,11 @@ pub fn feed_path(
         ≡ along_path (item_of s form x.now).taken leaf (tree_of s n floats.old links.now) }
 {
     let mut i = leaf;
-    let mut left = n.nodes;
-    while left > 0 {
+    for _ in 0..n.nodes {
         form::feed(s, n, floats, i, form, x);
-        let Parent::Node(p) = links::parent(s, n, links, i) else {
+        let Some(p) = links::parent(s, n, links, i) else {
             return;
         };
         i = p;
-        left -= 1;
     }
 }

@@ -1,5 +1,5 @@
 -- What the laws say of these steps, at a few trees, computed.
-use Rattle.std.specs.Prelude.{ℕ, ◌≡◌, refl, true, List, [], ◌∷◌, map, leb, length, Float}
+use Rattle.std.specs.Prelude.{ℕ, ◌≡◌, refl, true, List, [], ◌∷◌, map, leb, length, Float, Some}
 use Rattle.std.specs.Float.{nan, binary64}
 use Rattle.std.specs.Float.Ieee.{of_bits}
 use Rattle.binary64.specs.Operators.{f0}
@@ -7,7 +7,6 @@ use Rattle.feature.specs.Summaries.{blank}
 use Rattle.feature.specs.declared.Feature.TheVariants.{Spherical}
 use Rattle.distance.specs.declared.Distance.TheVariants.{CentroidEuclidean}
 use Rattle.head.specs.declared.Settings.{Settings}
-use Rattle.rules.specs.declared.Nearest.TheVariants.{Entry}
 use Rattle.rules.specs.declared.Verdict.TheVariants.{Passes}
 use Rattle.rules.specs.Lists.{change_at, occurs}
 use Rattle.rules.specs.Tree.{Tree, push, dist_to, fresh, adding, with_nodes, with_entries}
@@ -82,8 +81,8 @@ unfolding computes told batch taker_of taker owners_in owners_all
 batch-owns = refl
 
 -- a row that is not within the threshold of the nearest entry begins one
-joining-owns : told (joining (with 2 24) 10r 0 (Entry 0) (inserted_all (with 2 24) (0r ∷ []) (fresh f0)))
-    (0 ∷ taker_of (row_item (with 2 24) 10r) (Entry 0) (inserted_all (with 2 24) (0r ∷ []) (fresh f0)) ∷ []) ≡ true
+joining-owns : told (joining (with 2 24) 10r 0 (Some 0) (inserted_all (with 2 24) (0r ∷ []) (fresh f0)))
+    (0 ∷ taker_of (row_item (with 2 24) 10r) (Some 0) (inserted_all (with 2 24) (0r ∷ []) (fresh f0)) ∷ []) ≡ true
 unfolding computes told joining taker_of
 joining-owns = refl
 

@@ -1,11 +1,9 @@
 -- The steps under test, each the rule itself. Names that no step uses serve the edits.
-use Rattle.std.specs.Prelude.{ℕ, Bool, true, false, cond, List, [], ◌∷◌, ◌++◌, map, reverse, length, set, Float}
+use Rattle.std.specs.Prelude.{ℕ, Bool, true, false, cond, List, [], ◌∷◌, ◌++◌, map, reverse, length, set, Float, Option, None, Some}
 use Rattle.std.specs.Float.Ieee.{lt}
 use Rattle.binary64.specs.Operators.{infinity}
 use Rattle.feature.specs.declared.Summary.{Summary}
 use Rattle.head.specs.declared.Settings.{Settings}
-use Rattle.rules.specs.declared.Nearest.{Nearest}
-use Rattle.rules.specs.declared.Nearest.TheVariants.{Entry, Nothing}
 use Rattle.rules.specs.declared.Verdict.{Verdict}
 use Rattle.rules.specs.declared.Verdict.TheVariants.{Passes, Fails}
 use Rattle.rules.specs.declared.Pair.{Pair}
@@ -41,9 +39,9 @@ renumbering s t c = rebalanced_to s true t c
 unfoldable pub refitting_owners : Settings → List (List Float) → Tree → List ℕ → List ℕ
 refitting_owners s xs t a = owners_refit s (greedy s) xs t a
 
-unfoldable pub joining : Settings → List Float → ℕ → Nearest → Tree → Tree
-joining s x l Nothing t = absorbed_or_begun (row_item s x) l Nothing t
-joining s x l (Entry e) t = absorbed_or_begun (row_item s x) l (Entry e) t
+unfoldable pub joining : Settings → List Float → ℕ → Option ℕ → Tree → Tree
+joining s x l None t = absorbed_or_begun (row_item s x) l None t
+joining s x l (Some e) t = absorbed_or_begun (row_item s x) l (Some e) t
 
 unfoldable pub growing : Settings → List Float → Tree → Tree
 growing s x t = grown s (row_item s x) t

@@ -1,5 +1,5 @@
 -- A row, or a summary, in its leaf, before any split.
-use Rattle.std.specs.Prelude.{ℕ, ◌+◌, ◌<◌, ◌≡◌, refl, true, false, List, length, Float}
+use Rattle.std.specs.Prelude.{ℕ, ◌+◌, ◌<◌, ◌≡◌, refl, true, false, List, length, Float, Option, None, Some}
 use Rattle.std.proofs.Math.Path.{sym}
 use Rattle.std.proofs.Common.{◌∙◌, arith}
 use Rattle.std.specs.Float.Ieee.{le}
@@ -14,8 +14,6 @@ use Rattle.rules.specs.Tree.{Tree, push, dist_to, abs_to, node_at, entry_at, add
 use Rattle.rules.specs.Slices.{tree_of}
 use Rattle.rules.specs.Descent.{searched}
 use Rattle.rules.specs.Insert.{begun, absorbed, absorbs, absorbed_or_begun, placed, row_item}
-use Rattle.rules.specs.declared.Nearest.{Nearest}
-use Rattle.rules.specs.declared.Nearest.TheVariants.{Entry, Nothing}
 use Rattle.arena.specs.Trees.{AnyFloats, Floats, Links, ChildrenIn, on_node, on_entry, with_entry, floats_entries, links_entries, count_entries_lem}
 use Rattle.split.specs.Up.{spare_any}
 
@@ -67,13 +65,13 @@ absorbs-is s n fs ls x e q = rw q
 
 -- ---- the three ways of a row, by what the search in its leaf gave
 
-module _ (s : Settings) (x : List Float) (leaf : ℕ) (t : Tree) {u : Tree} {near : Nearest}
+module _ (s : Settings) (x : List Float) (leaf : ℕ) (t : Tree) {u : Tree} {near : Option ℕ}
     (q : near ≡ searched (λ e. dist_to s (entry_at t e) x) (node_at t leaf).list) where
-  pub placed_nothing : near ≡ Nothing → u ≡ begun leaf (push s x blank) t → u ≡ placed (row_item s x) leaf t
+  pub placed_nothing : near ≡ None → u ≡ begun leaf (push s x blank) t → u ≡ placed (row_item s x) leaf t
   unfolding placed absorbed_or_begun
   placed_nothing o h = h ∙ rw (sym q, o)
 
-  module _ {e : ℕ} {b : _} (o : near ≡ Entry e) (a : b ≡ absorbs (row_item s x) e t) where
+  module _ {e : ℕ} {b : _} (o : near ≡ Some e) (a : b ≡ absorbs (row_item s x) e t) where
     pub placed-absorbed : b ≡ true → u ≡ on_entry (push s x) e t → u ≡ placed (row_item s x) leaf t
     unfolding placed absorbed_or_begun absorbed on_entry
     placed-absorbed y h = h ∙ rw (sym q, o, sym a, y)

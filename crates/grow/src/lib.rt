@@ -23,7 +23,6 @@ use descent::path::feed_path;
 use descent::{descend, form};
 use feature::Summary;
 use head::{Counters, Settings};
-use rules::Nearest;
 use split::{fits, split_up};
 use stretch::slot;
 
@@ -71,14 +70,13 @@ fn try_absorb(
     ensures links_after { tree_of s result floats.new links.new ≡ placed (row_item s row.now) leaf (tree_of s n floats.old links.old) }
 {
     let near = search_leaf(s, n, floats, links::list(s, n, links, leaf), row);
-    let Nearest::Entry(e) = near else {
-        return begin(s, n, floats, links, leaf, form::alone(s, Form::Row, row));
-    };
-    if absorbs(s, n, floats, e, row) {
-        entries::push(s, n, floats, e, row);
-        return n;
+    match near {
+        Some(e) if absorbs(s, n, floats, e, row) => {
+            entries::push(s, n, floats, e, row);
+            n
+        }
+        _ => begin(s, n, floats, links, leaf, form::alone(s, Form::Row, row)),
     }
-    begin(s, n, floats, links, leaf, form::alone(s, Form::Row, row))
 }
 
 // Nodes over their caps split, from node i up; most often none is.

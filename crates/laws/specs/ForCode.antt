@@ -1,8 +1,8 @@
 -- What code needs of a tree at rest, in one place under names that stay: where lists and parents lead, where a descent ends, the row once placed,
 -- room for a node more.
-use Rattle.std.specs.Prelude.{ℕ, zero, suc, ◌+◌, ◌≤◌, ◌<◌, ◌≡◌, refl, Bool, true, false, cond, length}
+use Rattle.std.specs.Prelude.{ℕ, zero, suc, ◌+◌, ◌≤◌, ◌<◌, ◌≡◌, refl, Bool, true, false, cond, length, None, Some}
+use Rattle.std.proofs.lemmas.Option.{none-some}
 use Rattle.std.proofs.Common.{sym, subst, inl, inr, true≢false, arith}
-use Rattle.std.proofs.Math.Option.{none, some, none-ne-some}
 use Rattle.feature.specs.declared.Summary.{Summary}
 use Rattle.head.specs.declared.Settings.{Settings}
 use Rattle.head.specs.Sizes.{entry_cap}
@@ -26,7 +26,7 @@ pub record Sure (s : Settings) (t : Tree) : Type 0 where
   pub filled : (n : ℕ) → n < length t.nodes → (node_at t n).leaf ≡ false → 0 < length (node_at t n).list
   pub nodes_in : (n c : ℕ) → n < length t.nodes → (node_at t n).leaf ≡ false → 0 < occurs c (node_at t n).list → c < length t.nodes
   pub entries_in : (n c : ℕ) → n < length t.nodes → (node_at t n).leaf ≡ true → 0 < occurs c (node_at t n).list → c < length t.entries
-  pub parent_in : (n p : ℕ) → n < length t.nodes → (node_at t n).parent ≡ some p → p < length t.nodes
+  pub parent_in : (n p : ℕ) → n < length t.nodes → (node_at t n).parent ≡ Some p → p < length t.nodes
   pub fits : (n : ℕ) → n < length t.nodes → length (node_at t n).list ≤ cap s (node_at t n).leaf
 
 settled_sure : (s : Settings) (t : Tree) (R : ℕ → ℕ) (total : ℕ) → Settled s t R total → Sure s t
@@ -62,8 +62,8 @@ empty_sure s z r = record { root_in = omega arith; filled = fl; nodes_in = ni; e
     ei zero c l f o = absurd (let q : 1 ≤ 0 = o in omega arith)
     ei (suc n) c l f o = absurd (omega arith)
 
-    pi : (n p : ℕ) → n < 1 → (node_at (empty_tree z r) n).parent ≡ some p → p < 1
-    pi zero p l e = absurd (none-ne-some p e)
+    pi : (n p : ℕ) → n < 1 → (node_at (empty_tree z r) n).parent ≡ Some p → p < 1
+    pi zero p l e = absurd (none-some p e)
     pi (suc n) p l e = absurd (omega arith)
 
     ft : (n : ℕ) → n < 1 → length (node_at (empty_tree z r) n).list ≤ cap s (node_at (empty_tree z r) n).leaf
@@ -92,7 +92,7 @@ leaf_count t = sum_to (λ k. cond (node_at t k).leaf 1 0) (length t.nodes)
 -- a frame in which no inner node is empty; leaves and entries have room in the entries' cap. Leaves may be empty, as some are before a reinsertion
 pub record Standing (s : Settings) (t : Tree) : Type 0 where
   pub framed : Framed t
-  pub root_top : (node_at t t.root).parent ≡ none
+  pub root_top : (node_at t t.root).parent ≡ None
   pub inners : (i : ℕ) → i < length t.nodes → (node_at t i).leaf ≡ false → 0 < length (node_at t i).list
   pub leaves_few : leaf_count t ≤ entry_cap s
   pub entries_few : length t.entries ≤ entry_cap s
@@ -123,7 +123,7 @@ settled-standing s t R total g few = linked-standing s t R g.links few
 
 pub path_kids : (F : Summary → Summary) (l : ℕ) (t : Tree) (k : ℕ) → (node_at (along_path F l t) k).list ≡ (node_at t k).list
 unfolding along_path with_nodes node_at summed
-path_kids F l t k = climb_keeps F (λ m. m.list) (λ m. refl) (length t.nodes) (some l) t.nodes k
+path_kids F l t k = climb_keeps F (λ m. m.list) (λ m. refl) (length t.nodes) (Some l) t.nodes k
 
 -- the ways up from a node of a tree so looked at are fewer than its nodes
 pub steps_few : (s : Settings) (t : Tree) (R : ℕ → ℕ) (i total : ℕ) → Looking s t R i total → R t.root < R i + length t.nodes

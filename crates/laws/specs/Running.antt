@@ -1,20 +1,17 @@
 -- What runs along with a tree: what is asked of it, and the steps that leave it alone. Splits and the refold touch the nodes and the root only;
 -- threshold, rebuild count and merged total change in a rebuild only.
 use Prim.Native.Nat.{ℕ, zero, suc, ◌<◌}
-use Rattle.std.specs.Prelude.{◌≡◌, Bool, T, eqb, length, Float}
+use Rattle.std.specs.Prelude.{◌≡◌, Bool, T, eqb, length, Float, Option, None, Some}
 use Rattle.std.proofs.Math.Path.{refl}
 use Rattle.std.proofs.Common.{◌∙◌}
 use Rattle.std.proofs.Math.Bool.{true, false}
 use mathlib.Core.List.{List, [], ◌∷◌, map, reverse}
-use Rattle.std.proofs.Math.Option.{Option, none, some}
 use Rattle.std.specs.Float.Ieee.{le}
 use Rattle.std.specs.Float.Ieee.Scale.{finite}
 use Rattle.binary64.specs.Operators.{f0}
 use Rattle.feature.specs.declared.Summary.{Summary}
 use Rattle.head.specs.declared.Settings.{Settings}
 use Rattle.head.specs.declared.Running.{Running}
-use Rattle.rules.specs.declared.Nearest.{Nearest}
-use Rattle.rules.specs.declared.Nearest.TheVariants.{Entry, Nothing}
 use Rattle.rules.specs.Tree.{Node, Tree, node_at, entry_at, merge, dist_between, with_nodes, with_entries, with_root}
 use Rattle.rules.specs.Descent.{searched, leaf_for, along_path}
 use Rattle.rules.specs.Split.{split, parted, crowned, fitting, split_next, split_if, split_up, split_from}
@@ -46,8 +43,8 @@ module _ {B : Type 0} (f : Tree → B) (nodes : (ns : List Node) (t : Tree) → 
   next_keeps : (s : Settings) (go : ℕ → Tree → Tree) (i j : ℕ) (o : Option ℕ) (u : Tree) → ((p : ℕ) (v : Tree) → f (go p v) ≡ f v)
       → f (split_next s go i j o u) ≡ f u
   unfolding split_next crowned
-  next_keeps s go i j none u h = root _ _ ∙ nodes _ _
-  next_keeps s go i j (some p) u h = h p _ ∙ nodes _ _
+  next_keeps s go i j None u h = root _ _ ∙ nodes _ _
+  next_keeps s go i j (Some p) u h = h p _ ∙ nodes _ _
 
   if_keeps : (s : Settings) (go : ℕ → Tree → Tree) (i : ℕ) (b : Bool) (t : Tree) → ((p : ℕ) (v : Tree) → f (go p v) ≡ f v) → f (split_if s go i b t) ≡ f t
   unfolding split_if split parted
@@ -84,10 +81,10 @@ settled_running : (s : Settings) (i : ℕ) (t : Tree) → (split_from s i t).run
 unfolding split_from with_nodes with_root
 settled_running s i t = split_up_keeps (λ u. u.running) (λ ns u. refl) (λ r u. refl) s (length t.nodes) i t
 
-joined_running : (i : Item) (l : ℕ) (r : Nearest) (t : Tree) → (absorbed_or_begun i l r t).running ≡ t.running
+joined_running : (i : Item) (l : ℕ) (r : Option ℕ) (t : Tree) → (absorbed_or_begun i l r t).running ≡ t.running
 unfolding absorbed_or_begun begun absorbed with_nodes with_entries
-joined_running i l Nothing t = refl
-joined_running i l (Entry e) t = either (λ u. u.running ≡ t.running) (absorbs i e t) (absorbed i e t) (begun l i.alone t) refl refl
+joined_running i l None t = refl
+joined_running i l (Some e) t = either (λ u. u.running ≡ t.running) (absorbs i e t) (absorbed i e t) (begun l i.alone t) refl refl
 
 pub grown_running : (s : Settings) (i : Item) (t : Tree) → (grown s i t).running ≡ t.running
 unfolding grown grown_at placed along_path with_nodes

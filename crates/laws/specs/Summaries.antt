@@ -1,15 +1,12 @@
 -- What push and merge keep of a summary, and an empty one has, every step keeps of all summaries in a tree. So their shape is kept.
 use Prim.Native.Nat.{ℕ, zero, suc, ◌/◌}
-use Rattle.std.specs.Prelude.{Bool, ltb, eqb, set, take, drop, Float}
+use Rattle.std.specs.Prelude.{Bool, ltb, eqb, set, take, drop, Float, Option, None, Some}
 use Rattle.std.proofs.Math.Bool.{true, false}
 use mathlib.Core.List.{List, [], ◌∷◌, map, foldl, reverse}
-use Rattle.std.proofs.Math.Option.{Option, none, some}
 use Rattle.std.proofs.Math.ListN.{length, get_or}
 use Rattle.feature.specs.declared.Summary.{Summary}
 use Rattle.feature.specs.Summaries.{blank}
 use Rattle.head.specs.declared.Settings.{Settings}
-use Rattle.rules.specs.declared.Nearest.{Nearest}
-use Rattle.rules.specs.declared.Nearest.TheVariants.{Entry, Nothing}
 use Rattle.rules.specs.Lists.{change_at, snoc, keep, flip}
 use Rattle.rules.specs.Tree.{Node, Tree, push, merge, dist_to, dist_between, node_at, entry_at, blank_node, child}
 use Rattle.rules.specs.Tree.{with_nodes, with_entries, with_root, on_running, summed, with_list, adding, under}
@@ -65,13 +62,13 @@ module _ (s : Settings) (Q : Summary → Type 0) (none-q : Q blank) (push-q : (x
       → All (OfNode Q) (climbed f k o ns)
   unfolding climbed summed
   climbed_q f p zero o ns h = h
-  climbed_q f p (suc k) none ns h = h
-  climbed_q f p (suc k) (some n) ns h =
+  climbed_q f p (suc k) None ns h = h
+  climbed_q f p (suc k) (Some n) ns h =
       climbed_q f p k (get_or ns n blank_node).parent (change_at (summed f) n ns) (all-change (OfNode Q) (summed f) (λ m. p m.summary) n ns h)
 
   path_q : (f : Summary → Summary) → ((c : Summary) → Q c → Q (f c)) → (l : ℕ) (t : Tree) → Throughout Q t → Throughout Q (along_path f l t)
   unfolding along_path
-  path_q f p l t h = nodes_q (climbed f (length t.nodes) (some l) t.nodes) t (climbed_q f p (length t.nodes) (some l) t.nodes h.nodes) h
+  path_q f p l t h = nodes_q (climbed f (length t.nodes) (Some l) t.nodes) t (climbed_q f p (length t.nodes) (Some l) t.nodes h.nodes) h
 
   begun_q : (l : ℕ) (e : Summary) (t : Tree) → Q e → Throughout Q t → Throughout Q (begun l e t)
   unfolding begun adding with_list with_entries snoc
@@ -121,8 +118,8 @@ module _ (s : Settings) (Q : Summary → Type 0) (none-q : Q blank) (push-q : (x
   next_q : (go : ℕ → Tree → Tree) (i j : ℕ) (o : Option ℕ) (u : Tree) → ((p : ℕ) (v : Tree) → Throughout Q v → Throughout Q (go p v)) → Throughout Q u
       → Throughout Q (split_next s go i j o u)
   unfolding split_next adding with_list
-  next_q go i j none u f h = crowned_q i j u h
-  next_q go i j (some p) u f h =
+  next_q go i j None u f h = crowned_q i j u h
+  next_q go i j (Some p) u f h =
       f p (with_nodes (change_at (adding j) p u.nodes) u)
       (nodes_q (change_at (adding j) p u.nodes) u (all-change (OfNode Q) (adding j) (λ m r. r) p u.nodes h.nodes) h)
 
@@ -139,10 +136,10 @@ module _ (s : Settings) (Q : Summary → Type 0) (none-q : Q blank) (push-q : (x
 
   -- ---- a row in, and an entry placed again
 
-  joined_q : (x : List Float) (l : ℕ) (r : Nearest) (t : Tree) → Throughout Q t → Throughout Q (absorbed_or_begun (row_item s x) l r t)
+  joined_q : (x : List Float) (l : ℕ) (r : Option ℕ) (t : Tree) → Throughout Q t → Throughout Q (absorbed_or_begun (row_item s x) l r t)
   unfolding absorbed_or_begun absorbed
-  joined_q x l Nothing t h = begun_q l (push s x blank) t (push-q x blank none-q) h
-  joined_q x l (Entry e) t h =
+  joined_q x l None t h = begun_q l (push s x blank) t (push-q x blank none-q) h
+  joined_q x l (Some e) t h =
       either (Throughout Q) (absorbs (row_item s x) e t) (absorbed (row_item s x) e t) (begun l (push s x blank) t)
       (entries_q (change_at (push s x) e t.entries) t (all-change Q (push s x) (push-q x) e t.entries h.entries) h)
       (begun_q l (push s x blank) t (push-q x blank none-q) h)

@@ -1,8 +1,8 @@
 -- Line 1: the tree that it creates, and the room that a head with M at most 24 asks for.
 use Prim.Native.Nat.{ℕ, ◌+◌, ◌≤◌}
-use Rattle.std.specs.Prelude.{Bool, true, false, cond, ◌&&◌, ◌≡◌, leb, eqb, length, Float}
+use Rattle.std.specs.Prelude.{Bool, true, false, cond, ◌&&◌, ◌≡◌, leb, eqb, length, Float, Option, None, Some}
+use Rattle.std.proofs.lemmas.Option.{none-some, same_Some}
 use mathlib.Core.List.{List, [], ◌∷◌}
-use Rattle.std.proofs.Math.Option.{Option, none, some, some-injective, none-ne-some}
 use Rattle.std.proofs.Math.Path.{refl, sym, ap, subst}
 use Rattle.std.proofs.Common.{◌∙◌}
 use Rattle.std.proofs.Math.Nat.{mul-le-mul}
@@ -35,23 +35,23 @@ use Rattle.rules.specs.CallLaws.{Granted}
 abbrev pub Taken : Head → Type 0
 Taken h = (h.max_leaves ≤ 24) × (allowed h ≡ true)
 
-then_some : {A B X : Type 0} (o : Option A) (f : A → Option B) (b : B) → and_then o f ≡ some b → ((a : A) → f a ≡ some b → X) → X
+then_some : {A B X : Type 0} (o : Option A) (f : A → Option B) (b : B) → and_then o f ≡ Some b → ((a : A) → f a ≡ Some b → X) → X
 unfolding and_then
-then_some none f b e k = absurd (none-ne-some b e)
-then_some (some a) f b e k = k a e
+then_some None f b e k = absurd (none-some b e)
+then_some (Some a) f b e k = k a e
 
-where_some : {A : Type 0} (t : Bool) (o : Option A) (b : A) → cond t o none ≡ some b → (t ≡ true) × (o ≡ some b)
+where_some : {A : Type 0} (t : Bool) (o : Option A) (b : A) → cond t o None ≡ Some b → (t ≡ true) × (o ≡ Some b)
 where_some true o b e = (refl, e)
-where_some false o b e = absurd (none-ne-some b e)
+where_some false o b e = absurd (none-some b e)
 
-taken_is : (g h : Head) → taken g ≡ some h → Taken h
+taken_is : (g h : Head) → taken g ≡ Some h → Taken h
 unfolding taken
 taken_is g h e =
-    let (t, o) = where_some (leb g.max_leaves 24 && allowed g) (some g) h e in
+    let (t, o) = where_some (leb g.max_leaves 24 && allowed g) (Some g) h e in
     let (m, a) = both (leb g.max_leaves 24) (allowed g) t in
-    subst Taken (some-injective g h o) (leb-true g.max_leaves 24 m, a)
+    subst Taken (same_Some g h o) (leb-true g.max_leaves 24 m, a)
 
-pub first_taken : (l : List ℕ) (h : Head) → first_line l ≡ some h → Taken h
+pub first_taken : (l : List ℕ) (h : Head) → first_line l ≡ Some h → Taken h
 unfolding first_line head_from
 first_taken l h e =
     then_some _ _ h e λ fs e₀. then_some _ _ h (where_some (eqb (length fs) 8) (head_from fs) h e₀).1 λ d e₁. then_some _ _ h e₁ λ b e₂.
@@ -136,17 +136,17 @@ module _ (h : Head) (ok : Taken h) (fs : List Float) (ks : List ℕ) (floats_roo
       changed-tree h (record { floats = fs; links = ks; scratch_floats = []; scratch_links = [] }) (fresh x) sized
       (resting_fits sized (fresh x) 0 (fresh_rests sized x) (fresh_shaped s x))
 
-  first_some : (l : List ℕ) (ls : List (List ℕ)) → first_line l ≡ some h → lines_listed (l ∷ ls) ≡ rows_listed s 2 ls (fresh x)
+  first_some : (l : List ℕ) (ls : List (List ℕ)) → first_line l ≡ Some h → lines_listed (l ∷ ls) ≡ rows_listed s 2 ls (fresh x)
   unfolding lines_listed
   first_some l ls e =
-      let f : Option Head → List ℕ = λ o. elim o [ none ↦ bad_line 1 | some h ↦ rows_listed (settings_of h) 2 ls (fresh h.counters.running.threshold) ] in
+      let f : Option Head → List ℕ = λ o. elim o [ None ↦ bad_line 1 | Some h ↦ rows_listed (settings_of h) 2 ls (fresh h.counters.running.threshold) ] in
       ap f e
 
   -- the run behind line 1
   abbrev behind : Made → Run
   behind o = record { head = o.head; stage = Stages.Rows; number = 2; long = 0 }
 
-  made_read : (run : Run) (l : List ℕ) → first_line l ≡ some h
+  made_read : (run : Run) (l : List ℕ) → first_line l ≡ Some h
       → LineRead (printed_of Stages.First run fs ks) l (behind (made_by [] h fs ks)) (made_by [] h fs ks).floats (made_by [] h fs ks).links
   unfolding Stands printed_of listed_at
   made_read run l e = record {
@@ -158,7 +158,7 @@ module _ (h : Head) (ok : Taken h) (fs : List Float) (ks : List ℕ) (floats_roo
         ∙ ap (rows_listed s 2 ls) made-tree ∙ sym (first_some l ls e));
   }
 
-  pub created_read : (run : Run) (l : List ℕ) → first_line l ≡ some h → (o : Made) → o ≡ made_by [] h fs ks
+  pub created_read : (run : Run) (l : List ℕ) → first_line l ≡ Some h → (o : Made) → o ≡ made_by [] h fs ks
       → LineRead (printed_of Stages.First run fs ks) l (behind o) o.floats o.links
   created_read run l e o m =
       subst (λ (o : Made). LineRead (printed_of Stages.First run fs ks) l (behind o) o.floats o.links) (sym m) (made_read run l e)
@@ -166,6 +166,6 @@ module _ (h : Head) (ok : Taken h) (fs : List Float) (ks : List ℕ) (floats_roo
 -- ---- no head
 
 pub no_head : (run : Run) {q : Run} (why : Reason) → q ≡ bad_run why run → (l : List ℕ) (fs : List Float) (ks : List ℕ)
-    → Stands Stages.First run fs ks → first_line l ≡ none → LineRead (printed_of Stages.First run fs ks) l q fs ks
+    → Stands Stages.First run fs ks → first_line l ≡ None → LineRead (printed_of Stages.First run fs ks) l q fs ks
 unfolding Stands printed_of listed_at
 no_head run why b l fs ks k e = bad_read run why b l fs ks (printed_of Stages.First run fs ks) (λ ls. first_none l ls e ∙ ap bad_line (sym k))

@@ -1,8 +1,7 @@
 -- Bytes into lines: one byte more, a line too long, a newline, the end.
-use Rattle.std.specs.Prelude.{ℕ, suc, ◌+◌, ◌≤◌, ◌<◌, Bool, true, cond, ◌||◌, not, ◌≡◌, refl, eqb, length, get_or, set, Float}
+use Rattle.std.specs.Prelude.{ℕ, suc, ◌+◌, ◌≤◌, ◌<◌, Bool, true, cond, ◌||◌, not, ◌≡◌, refl, eqb, length, get_or, set, Float, Option, None, Some}
 use Rattle.std.proofs.Math.Bool.{false}
 use mathlib.Core.List.{List, [], ◌∷◌, reverse, reverse-append, reverse-reverse}
-use Rattle.std.proofs.Math.Option.{Option, none, some}
 use Rattle.std.proofs.Math.Path.{sym, ap}
 use Rattle.std.proofs.Common.{◌∙◌, arith, add-one, ne_eqb, take-suc-set}
 use Rattle.std.proofs.Math.ListN.{take, length-reverse}
@@ -48,16 +47,16 @@ longer p (b ∷ rest) h = longer_case (eqb b 10) b p rest refl (longer (b ∷ p)
 
 -- ---- a line of over 200 bytes
 
-pub first_none : (l : List ℕ) (ls : List (List ℕ)) → first_line l ≡ none → lines_listed (l ∷ ls) ≡ bad_line 1
+pub first_none : (l : List ℕ) (ls : List (List ℕ)) → first_line l ≡ None → lines_listed (l ∷ ls) ≡ bad_line 1
 unfolding lines_listed
 first_none l ls e =
-    let f : Option Head → List ℕ = λ o. elim o [ none ↦ bad_line 1 | some h ↦ rows_listed (settings_of h) 2 ls (fresh h.counters.running.threshold) ] in
+    let f : Option Head → List ℕ = λ o. elim o [ None ↦ bad_line 1 | Some h ↦ rows_listed (settings_of h) 2 ls (fresh h.counters.running.threshold) ] in
     ap f e
 
-pub row_none : (s : Settings) (n : ℕ) (t : Tree) (l : List ℕ) (ls : List (List ℕ)) → line_in s t l ≡ none → rows_listed s n (l ∷ ls) t ≡ bad_line n
+pub row_none : (s : Settings) (n : ℕ) (t : Tree) (l : List ℕ) (ls : List (List ℕ)) → line_in s t l ≡ None → rows_listed s n (l ∷ ls) t ≡ bad_line n
 unfolding rows_listed
 row_none s n t l ls e =
-    let f : Option Tree → List ℕ = λ o. elim o [ none ↦ bad_line n | some u ↦ rows_listed s (suc n) ls u ] in
+    let f : Option Tree → List ℕ = λ o. elim o [ None ↦ bad_line n | Some u ↦ rows_listed s (suc n) ls u ] in
     ap f e
 
 too_long : (st : Stage) (r : Run) (fs : List Float) (ks : List ℕ) (l : List ℕ) (ls : List (List ℕ)) → Stands st r fs ks → 200 < length l

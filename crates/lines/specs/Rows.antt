@@ -1,8 +1,7 @@
 -- A row's line: only a full tree refuses a row of dim floats, and any other goes on as the rules say.
 use Prim.Native.Nat.{ℕ, suc, ◌+◌, ◌-◌, ◌≤◌, ◌<◌}
 use mathlib.Core.List.{List, [], ◌∷◌}
-use Rattle.std.proofs.Math.Option.{Option, none, some}
-use Rattle.std.specs.Prelude.{◌≡◌, refl, length, take, Float}
+use Rattle.std.specs.Prelude.{◌≡◌, refl, length, take, Float, Option, None, Some}
 use Rattle.std.proofs.Math.Path.{sym, ap, subst}
 use Rattle.std.proofs.Common.{◌∙◌, arith, add-one}
 use Rattle.std.proofs.Math.Nat.{sub-zero}
@@ -165,7 +164,7 @@ module _ (run : Run) (l : Lent) (g : Grown run.number run.head l.floats l.links)
       row_some : (line : List ℕ) (ls : List (List ℕ)) → Says s t x line → rows_listed s run.number (line ∷ ls) t ≡ rows_listed s (suc run.number) ls u
       unfolding rows_listed row_in
       row_some line ls y =
-          let f : Option Tree → List ℕ = λ o. elim o [ none ↦ bad_line run.number | some u ↦ rows_listed s (suc run.number) ls u ] in
+          let f : Option Tree → List ℕ = λ o. elim o [ None ↦ bad_line run.number | Some u ↦ rows_listed s (suc run.number) ls u ] in
           ap f (y ∙ ap (row_in s t x) (none_wrong k))
 
       pub row_read : (line : List ℕ) → Says s t x line

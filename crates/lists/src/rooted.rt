@@ -7,7 +7,6 @@ ghost use Rattle.arena.specs.Trees.{AnyFloats, Links};
 
 use arena::links;
 use head::{Counters, Settings};
-use stretch::block::Parent;
 
 // Condition 1: node count 1 to N, entry count 0 to M.
 pub fn sized(s: Settings, n: Counters) -> bool
@@ -31,8 +30,5 @@ pub fn rooted(s: Settings, n: Counters, links: &[u32]) -> bool
     if n.root >= n.nodes {
         return false;
     }
-    match links::parent(s, n, links, n.root) {
-        Parent::Node(_) => false,
-        Parent::NoParent => true,
-    }
+    links::parent(s, n, links, n.root).is_none()
 }

@@ -119,7 +119,7 @@ fn keep_list(s: Settings, n: Counters, links: &mut [u32], numbers: &[u32], i: us
     }
     let few = kept(links::list(s, n, links, i), numbers);
     let list = few.list;
-    links::set_list(s, n, links, i, &list, few.len);
+    links::set_list(s, n, links, i, &list[..few.len]);
 }
 
 // All leaves' lists by the new numbers.

@@ -1,10 +1,9 @@
 -- Groups of entries: each member with its partner, one after the other; the groups of all nodes.
-use Rattle.std.specs.Prelude.{ℕ, zero, suc, ◌+◌, ◌≤◌, ◌<◌, ◌≡◌, Bool, ◌&&◌, Float, length}
+use Rattle.std.specs.Prelude.{ℕ, zero, suc, ◌+◌, ◌≤◌, ◌<◌, ◌≡◌, Bool, ◌&&◌, Float, length, Option, None}
 use Rattle.std.proofs.Math.Path.{refl, sym, ap, ap₂}
 use Rattle.std.proofs.Common.{◌∙◌, add-one, arith, drop_of_length-le}
 use Rattle.std.proofs.Math.Bool.{true, false, cond, not}
 use mathlib.Core.List.{List, [], ◌∷◌, ◌++◌, append_assoc}
-use Rattle.std.proofs.Math.Option.{Option, none}
 use borrow.Author.Tests.{lt-ltb, le-ltb}
 use Rattle.std.proofs.Math.Dec.{ltb}
 use Rattle.std.proofs.Math.ListN.{get_or, drop}
@@ -31,17 +30,17 @@ module _ (s : Settings) (t : Tree) (g : List ℕ) where
   unfolding partners
   partners-append [] m = refl
   partners-append (i ∷ l) m =
-      ap (λ q. pair_of i (partner (cost_of s t i) i none g) ++ q) (partners-append l m)
-      ∙ sym (append_assoc (pair_of i (partner (cost_of s t i) i none g)) (partners s t g l) (partners s t g m))
+      ap (λ q. pair_of i (partner (cost_of s t i) i None g) ++ q) (partners-append l m)
+      ∙ sym (append_assoc (pair_of i (partner (cost_of s t i) i None g)) (partners s t g l) (partners s t g m))
 
   -- one member more
-  pub partners_turn : (l : List ℕ) (k i : ℕ) (o : Option Best) (ps qs : List Pair) → k < length l → i ≡ get_or l k 0 → o ≡ partner (cost_of s t i) i none g
+  pub partners_turn : (l : List ℕ) (k i : ℕ) (o : Option Best) (ps qs : List Pair) → k < length l → i ≡ get_or l k 0 → o ≡ partner (cost_of s t i) i None g
       → qs ≡ ps ++ pair_of i o → qs ++ partners s t g (drop (k + 1) l) ≡ ps ++ partners s t g (drop k l)
   unfolding partners
   partners_turn l k i o ps qs h ei eo eq =
       let here : drop k l ≡ i ∷ drop (k + 1) l = drop-cons l k 0 h ∙ ap₂ (λ x m. x ∷ drop m l) (sym ei) (sym (add-one k)) in
       ap (λ q. q ++ partners s t g (drop (k + 1) l)) (eq ∙ ap (λ x. ps ++ pair_of i x) eo)
-      ∙ append_assoc ps (pair_of i (partner (cost_of s t i) i none g)) (partners s t g (drop (k + 1) l))
+      ∙ append_assoc ps (pair_of i (partner (cost_of s t i) i None g)) (partners s t g (drop (k + 1) l))
       ∙ ap (λ m. ps ++ partners s t g m) (sym here)
 
   pub partners_end : (l : List ℕ) (k : ℕ) (ps : List Pair) → length l ≤ k → ps ++ partners s t g (drop k l) ≡ ps

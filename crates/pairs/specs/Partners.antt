@@ -1,8 +1,7 @@
 -- The partner that an entry names, found along a list, and the pair that it makes.
-use Rattle.std.specs.Prelude.{ℕ, ◌+◌, ◌≤◌, ◌<◌, ◌≡◌, refl, Bool, true, false, cond, List, [], ◌∷◌, ◌++◌, ◌≢◌, eqb, Float, length, get_or, drop}
+use Rattle.std.specs.Prelude.{ℕ, ◌+◌, ◌≤◌, ◌<◌, ◌≡◌, refl, Bool, true, false, cond, List, [], ◌∷◌, ◌++◌, ◌≢◌, eqb, Float, length, get_or, drop, Option, None, Some}
 use Rattle.std.proofs.Math.Path.{sym, ap}
 use Rattle.std.proofs.Common.{◌∙◌, add-one, arith, eq-eqb, ne_eqb, drop_of_length-le, drop-cons}
-use Rattle.std.proofs.Math.Option.{Option, none, some}
 use Rattle.std.specs.Float.Ieee.{lt}
 use Rattle.rules.specs.Lists.{snoc}
 use Rattle.rules.specs.Descent.{Best, best, closer}
@@ -13,27 +12,27 @@ use Rattle.pairs.specs.declared.partner.Partner.TheVariants.{Named, Alone}
 
 -- the code's partner as the rules have it
 unfoldable pub partner_of : Partner → Option Best
-partner_of (Named i c) = some (best i c)
-partner_of Alone = none
+partner_of (Named i c) = Some (best i c)
+partner_of Alone = None
 
 -- a partner that is named is below n
 unfoldable pub Inside : ℕ → Option Best → Type 0
-Inside n (some (best i c)) = i < n
-Inside n none = Unit
+Inside n (Some (best i c)) = i < n
+Inside n None = Unit
 
 pub inside_cheaper : (n : ℕ) (o : Option Best) (j : ℕ) (c : Float) → Inside n o → j < n → Inside n (cheaper o j c)
 unfolding Inside cheaper closer
-inside_cheaper n none j c h l = l
-inside_cheaper n (some (best i d)) j c h l = go (lt c d)
+inside_cheaper n None j c h l = l
+inside_cheaper n (Some (best i d)) j c h l = go (lt c d)
   where
-    go : (b : Bool) → Inside n (some (cond b (best j c) (best i d)))
+    go : (b : Bool) → Inside n (Some (cond b (best j c) (best i d)))
     go true = l
     go false = h
 
 pub inside_more : (m n : ℕ) (o : Option Best) → Inside m o → m ≤ n → Inside n o
 unfolding Inside
-inside_more m n none h l = tt
-inside_more m n (some (best i c)) h l = omega arith
+inside_more m n None h l = tt
+inside_more m n (Some (best i c)) h l = omega arith
 
 module _ (p : Partner) (j : ℕ) (c : Float) where
   pub cheaper_first : p ≡ Alone → partner_of (Named j c) ≡ cheaper (partner_of p) j c
@@ -49,15 +48,15 @@ module _ (p : Partner) (j : ℕ) (c : Float) where
   cheaper_no i d e h = rw (e, partner_of, cheaper, closer, h)
 
   -- as the rules see it
-  pub partner_named : p ≡ Named j c → partner_of p ≡ some (best j c)
+  pub partner_named : p ≡ Named j c → partner_of p ≡ Some (best j c)
   unfolding partner_of
   partner_named e = rw (e, partner_of)
 
-pub partner-alone : (p : Partner) → p ≡ Alone → partner_of p ≡ none
+pub partner-alone : (p : Partner) → p ≡ Alone → partner_of p ≡ None
 unfolding partner_of
 partner-alone p e = rw (e, partner_of)
 
-pub named_inside : (n : ℕ) (o : Option Best) (i : ℕ) (c : Float) → o ≡ some (best i c) → Inside n o → i < n
+pub named_inside : (n : ℕ) (o : Option Best) (i : ℕ) (c : Float) → o ≡ Some (best i c) → Inside n o → i < n
 unfolding Inside
 named_inside n o i c e h = rw e at h
 
@@ -95,12 +94,12 @@ partner-append f i b (j ∷ l) m = go (eqb j i) (partner-append f i b l m) (part
 
 -- ---- the pair that it makes
 
-pub pair-pushed : {cs : List Float} {ns : List ℕ} {cs' : List Float} {ns' : List ℕ} (n i j : ℕ) (c : Float) (o : Option Best) → o ≡ some (best j c)
+pub pair-pushed : {cs : List Float} {ns : List ℕ} {cs' : List Float} {ns' : List ℕ} (n i j : ℕ) (c : Float) (o : Option Best) → o ≡ Some (best j c)
     → Put n (record { cost = c; one = i; two = j }) cs ns cs' ns' → pairs_in cs' ns' (n + 1) ≡ pairs_in cs ns n ++ pair_of i o
 unfolding pair_of snoc
 pair-pushed {cs} {ns} n i j c o e w = put_more w ∙ ap (λ p. pairs_in cs ns n ++ pair_of i p) (sym e)
 
-pub none-pushed : (cs : List Float) (ns : List ℕ) (n i : ℕ) (o : Option Best) → o ≡ none → pairs_in cs ns n ≡ pairs_in cs ns n ++ pair_of i o
+pub none-pushed : (cs : List Float) (ns : List ℕ) (n i : ℕ) (o : Option Best) → o ≡ None → pairs_in cs ns n ≡ pairs_in cs ns n ++ pair_of i o
 unfolding pair_of
 none-pushed cs ns n i o e = sym (append-none (pairs_in cs ns n)) ∙ ap (λ p. pairs_in cs ns n ++ pair_of i p) (sym e)
   where

@@ -1,6 +1,5 @@
 // Partners among the entries of all leaves under one node.
-ghost use Rattle.std.specs.Prelude.{◌≡◌, true, false, ◌++◌, ◌+◌, ◌≤◌, ◌<◌, length};
-ghost use Rattle.std.proofs.Math.Option.{none};
+ghost use Rattle.std.specs.Prelude.{◌≡◌, true, false, ◌++◌, ◌+◌, ◌≤◌, ◌<◌, length, None};
 ghost use Rattle.head.specs.Sizes.{entry_cap};
 ghost use Rattle.rules.specs.Slices.{tree_of};
 ghost use Rattle.rules.specs.Pairs.{cost_of, partner, partners, all_leaves, beneath, cousins};
@@ -45,7 +44,7 @@ fn cheapest_beneath(
     requires floats { Floats s n (length floats.now) × Links s n (length links.now) × (i < n.entries) }
     requires leaves { Leaves n (tree_of s n floats.now links.now) leaves.now }
     ensures result_value { partner_of result
-        ≡ partner (cost_of s (tree_of s n floats.now links.now) i) i none
+        ≡ partner (cost_of s (tree_of s n floats.now links.now) i) i None
         (beneath (tree_of s n floats.now links.now) leaves.now) }
     ensures inside { Inside n.entries (partner_of result) }
 {

@@ -1,8 +1,7 @@
 -- Demand 3, as it is stated: what a reader has to believe of it, and nothing else.
 -- `Runs.Public.calls_keep` proves `Promise` at the end of any `Calls`, `Runs.Created.created_keeps` what a start from creation adds to it,
 -- and `Runs.Public.calls_local` proves `Local` of any row without a rebuild.
-use Rattle.std.specs.Prelude.{ℕ, zero, suc, ◌+◌, ◌/◌, ◌≤◌, ◌<◌, ◌≡◌, ◌⊎◌, Bool, true, false, not, cond, List, [], ◌∷◌, ◌++◌, map, length, get_or, replicate, ltb, eqb, Float}
-use Rattle.std.proofs.Math.Option.{Option, none, some}
+use Rattle.std.specs.Prelude.{ℕ, zero, suc, ◌+◌, ◌/◌, ◌≤◌, ◌<◌, ◌≡◌, ◌⊎◌, Bool, true, false, not, cond, List, [], ◌∷◌, ◌++◌, map, length, get_or, replicate, ltb, eqb, Float, Option, None, Some}
 use Rattle.std.specs.Float.Ieee.{eq}
 use Rattle.binary64.specs.Whole.{whole, most}
 use Rattle.feature.specs.declared.Summary.{Summary}
@@ -13,8 +12,6 @@ use Rattle.head.specs.declared.refusal.Refusal.{Refusal}
 use Rattle.head.specs.declared.refusal.Answer.{Answer}
 use Rattle.head.specs.declared.refusal.Answer.TheVariants.{Accepted, Refused}
 use Rattle.head.specs.Heads.{settings_of}
-use Rattle.rules.specs.declared.Nearest.{Nearest}
-use Rattle.rules.specs.declared.Nearest.TheVariants.{Entry, Nothing}
 use Rattle.rules.specs.declared.Verdict.TheVariants.{Passes}
 use Rattle.rules.specs.Lists.{change_at, snoc, occurs, rows_of, up_from}
 use Rattle.rules.specs.Tree.{push, merge, dist_to, Tree, node_at, entry_at, row_count}
@@ -48,9 +45,9 @@ standing i [] = []
 standing i (e ∷ es) = replicate (row_count e) i ++ standing (suc i) es
 
 -- the entry that takes an item: the nearest one of its leaf that absorbs it, or a new one
-unfoldable pub taker_of : Item → Nearest → Tree → ℕ
-taker_of i Nothing t = length t.entries
-taker_of i (Entry e) t = cond (absorbs i e t) e (length t.entries)
+unfoldable pub taker_of : Item → Option ℕ → Tree → ℕ
+taker_of i None t = length t.entries
+taker_of i (Some e) t = cond (absorbs i e t) e (length t.entries)
 
 unfoldable pub taker : Item → Tree → ℕ
 taker i t =
@@ -190,32 +187,32 @@ pub record FromCreation (t : Tree) (ys : List Origin) (a : List ℕ) : Type 0 wh
 -- the row's path: from its leaf up to the root, k nodes at most
 unfoldable pub way_up : Tree → ℕ → Option ℕ → List ℕ
 way_up t zero o = []
-way_up t (suc k) none = []
-way_up t (suc k) (some n) = n ∷ way_up t k (node_at t n).parent
+way_up t (suc k) None = []
+way_up t (suc k) (Some n) = n ∷ way_up t k (node_at t n).parent
 
 unfoldable pub path_up : Tree → ℕ → List ℕ
-path_up t l = way_up t (length t.nodes) (some l)
+path_up t l = way_up t (length t.nodes) (Some l)
 
 abbrev pub OnPath : Tree → ℕ → ℕ → Type 0
 OnPath t l q = 0 < occurs q (path_up t l)
 
 -- the entry of the leaf that `dist` finds nearest, or that no distance was below infinity
-unfoldable pub winner : Item → ℕ → Tree → Nearest
+unfoldable pub winner : Item → ℕ → Tree → Option ℕ
 winner i l t = searched (λ e. i.near (entry_at t e)) (node_at t l).list
 
 -- the winner took the item in, and `abs` to it is within the threshold; or there is one entry more, and no winner is within it
 pub data OneEntry (i : Item) (l : ℕ) (t u : Tree) : Type 0 where
-  took : (e : ℕ) → e < length t.entries → winner i l t ≡ Entry e → absorbs i e t ≡ true → u.entries ≡ change_at i.taken e t.entries → OneEntry i l t u
-  began : ((e : ℕ) → winner i l t ≡ Entry e → absorbs i e t ≡ false) → u.entries ≡ snoc t.entries i.alone → OneEntry i l t u
+  took : (e : ℕ) → e < length t.entries → winner i l t ≡ Some e → absorbs i e t ≡ true → u.entries ≡ change_at i.taken e t.entries → OneEntry i l t u
+  began : ((e : ℕ) → winner i l t ≡ Some e → absorbs i e t ≡ false) → u.entries ≡ snoc t.entries i.alone → OneEntry i l t u
 
 -- node q's parent was one of P, and is a new node now: n there were
 pub record Moved (P : ℕ → Type 0) (n : ℕ) (t u : Tree) (q : ℕ) : Type 0 where
   pub from : ℕ
-  pub was : (node_at t q).parent ≡ some from
+  pub was : (node_at t q).parent ≡ Some from
   pub on : P from
   pub to : ℕ
   pub new : n ≤ to
-  pub is : (node_at u q).parent ≡ some to
+  pub is : (node_at u q).parent ≡ Some to
 
 -- summary, list and kind are as before, and so is the parent unless a split moved the node
 pub record Same (P : ℕ → Type 0) (n : ℕ) (t u : Tree) (q : ℕ) : Type 0 where

@@ -1,9 +1,9 @@
 -- What the last reasons mean: where every field is as asked, the threshold's value is wrong, or the number of floats is.
 use Prim.Native.Nat.{ℕ, zero, suc, ◌+◌, ◌≤◌, ◌<◌}
 use Rattle.std.proofs.Math.Bool.{Bool, true, false}
-use Rattle.std.specs.Prelude.{cond, List, [], ◌∷◌, ◌≡◌, refl, leb, ltb, eqb, length, get_or, Float}
+use Rattle.std.specs.Prelude.{cond, List, [], ◌∷◌, ◌≡◌, refl, leb, ltb, eqb, length, get_or, Float, Option, None, Some}
+use Rattle.std.proofs.lemmas.Option.{none-some, same_Some}
 use Rattle.std.proofs.lemmas.Bool.{false≢true}
-use Rattle.std.proofs.Math.Option.{Option, none, some, some-injective, none-ne-some}
 use Rattle.std.proofs.Common.{sym, subst, ◌∙◌, arith, leb-true, le-leb, lt-ltb, ltb-false, eqb-true}
 use Rattle.std.proofs.Math.Path.{ap}
 use Prim.Native.String.{String}
@@ -47,15 +47,15 @@ isnt : (t : Bool) → (t ≡ true → ⊥) → t ≡ false
 isnt true h = absurd (h refl)
 isnt false h = refl
 
-some_is : {A : Type 0} (o : Option A) → is_some o ≡ true → (a : A) × (o ≡ some a)
+some_is : {A : Type 0} (o : Option A) → is_some o ≡ true → (a : A) × (o ≡ Some a)
 unfolding is_some
-some_is none e = absurd (false≢true e)
-some_is (some a) e = (a, refl)
+some_is None e = absurd (false≢true e)
+some_is (Some a) e = (a, refl)
 
 -- ---- a row
 
 -- so the line has as many floats as it has fields
-all-floats : (fs : List (List ℕ)) (k : ℕ) → k + length fs ≤ wrong_at float_at k fs → (x : List Float) × (hex_floats fs ≡ some x) × (length x ≡ length fs)
+all-floats : (fs : List (List ℕ)) (k : ℕ) → k + length fs ≤ wrong_at float_at k fs → (x : List Float) × (hex_floats fs ≡ Some x) × (length x ≡ length fs)
 unfolding hex_floats float_at
 all-floats [] k h = ([], refl, refl)
 all-floats (f ∷ fs) k h =
@@ -65,17 +65,17 @@ all-floats (f ∷ fs) k h =
     (x ∷ xs, goes _ _ x p ∙ goes _ _ xs q, ap suc n)
 
 unfoldable shape_of : Reason → Option ℕ
-shape_of R.Long = none
-shape_of R.Return = none
-shape_of (R.Fields n) = none
-shape_of (R.Setting k) = none
-shape_of R.Threshold = none
-shape_of (R.Float k) = none
-shape_of (R.Shape n) = some n
-shape_of R.Full = none
+shape_of R.Long = None
+shape_of R.Return = None
+shape_of (R.Fields n) = None
+shape_of (R.Setting k) = None
+shape_of R.Threshold = None
+shape_of (R.Float k) = None
+shape_of (R.Shape n) = Some n
+shape_of R.Full = None
 
 -- a row told as SHAPE has n floats
-pub shape_floats : (l : List ℕ) (n : ℕ) → row_reason l ≡ R.Shape n → (x : List Float) × (floats_in l ≡ some x) × (length x ≡ n)
+pub shape_floats : (l : List ℕ) (n : ℕ) → row_reason l ≡ R.Shape n → (x : List Float) × (floats_in l ≡ Some x) × (length x ≡ n)
 unfolding row_reason reason_of shape_of
 shape_floats l n e = go (leb (length l) 200) (ends_in_return l) (ltb (wrong_at float_at 0 (fields_of l)) (length (fields_of l))) refl refl (ap shape_of e)
   where
@@ -83,14 +83,14 @@ shape_floats l n e = go (leb (length l) 200) (ends_in_return l) (ltb (wrong_at f
     fs = fields_of l
 
     go : (a b c : Bool) → leb (length l) 200 ≡ a → ltb (wrong_at float_at 0 fs) (length fs) ≡ c
-        → shape_of (cond a (cond b R.Return (cond c (R.Float (wrong_at float_at 0 fs + 1)) (R.Shape (length fs)))) R.Long) ≡ some n
-        → (x : List Float) × (floats_in l ≡ some x) × (length x ≡ n)
+        → shape_of (cond a (cond b R.Return (cond c (R.Float (wrong_at float_at 0 fs + 1)) (R.Shape (length fs)))) R.Long) ≡ Some n
+        → (x : List Float) × (floats_in l ≡ Some x) × (length x ≡ n)
     go true false false p q s =
         let (x, r, m) = all-floats fs 0 (let k = ltb-false (wrong_at float_at 0 fs) (length fs) q in omega arith) in
-        (x, floats_short l (leb-true (length l) 200 p) ∙ r, m ∙ some-injective (length fs) n s)
-    go true false true p q s = absurd (none-ne-some n s)
-    go true true c p q s = absurd (none-ne-some n s)
-    go false b c p q s = absurd (none-ne-some n s)
+        (x, floats_short l (leb-true (length l) 200 p) ∙ r, m ∙ same_Some (length fs) n s)
+    go true false true p q s = absurd (none-some n s)
+    go true true c p q s = absurd (none-some n s)
+    go false b c p q s = absurd (none-some n s)
 
 -- and if it is no row, n is not dim
 pub shape_wrong : (l : List ℕ) (n dim : ℕ) (before after : List Float) → RowRead dim (floats_in l) before after Malformed → row_reason l ≡ R.Shape n
@@ -100,31 +100,31 @@ shape_wrong l n dim before after w e d = let (x, p, m) = shape_floats l n e in w
 
 -- ---- line 1
 
-word_below : (n : ℕ) (ws : List String) (l : List ℕ) (m : ℕ) → word_at n ws l ≡ some m → m < n + length ws
+word_below : (n : ℕ) (ws : List String) (l : List ℕ) (m : ℕ) → word_at n ws l ≡ Some m → m < n + length ws
 unfolding word_at
-word_below n [] l m e = absurd (none-ne-some m e)
+word_below n [] l m e = absurd (none-some m e)
 word_below n (w ∷ ws) l m e = go (same l (bytes w)) (word_below (suc n) ws l m) e
   where
-    go : (t : Bool) → (word_at (suc n) ws l ≡ some m → m < suc n + length ws) → cond t (some n) (word_at (suc n) ws l) ≡ some m → m < n + suc (length ws)
-    go true k q = let z = some-injective n m q in omega arith
+    go : (t : Bool) → (word_at (suc n) ws l ≡ Some m → m < suc n + length ws) → cond t (Some n) (word_at (suc n) ws l) ≡ Some m → m < n + suc (length ws)
+    go true k q = let z = same_Some n m q in omega arith
     go false k q = let z = k q in omega arith
 
-feature_below : (l : List ℕ) (m : ℕ) → feature_word l ≡ some m → m < 2
+feature_below : (l : List ℕ) (m : ℕ) → feature_word l ≡ Some m → m < 2
 unfolding feature_word
 feature_below l m e = word_below 0 _ l m e
 
-distance_below : (l : List ℕ) (m : ℕ) → distance_word l ≡ some m → m < 6
+distance_below : (l : List ℕ) (m : ℕ) → distance_word l ≡ Some m → m < 6
 unfolding distance_word
 distance_below l m e = word_below 0 _ l m e
 
-size_is : (least most : ℕ) (o : Option ℕ) → size_in least most o ≡ true → (n : ℕ) × (o ≡ some n) × (within least most n ≡ true)
+size_is : (least most : ℕ) (o : Option ℕ) → size_in least most o ≡ true → (n : ℕ) × (o ≡ Some n) × (within least most n ≡ true)
 unfolding size_in
-size_is least most none e = absurd (false≢true e)
-size_is least most (some n) e = (n, refl, e)
+size_is least most None e = absurd (false≢true e)
+size_is least most (Some n) e = (n, refl, e)
 
 -- a head whose threshold is right as well is taken
 all-taken : (d b l m f g a : ℕ) (x : Float) → within 1 8 d ≡ true → within 2 16 b ≡ true → within 1 16 l ≡ true → within 1 24 m ≡ true
-    → f < 2 → g < 6 → a < 6 → threshold_within x ≡ true → taken (new_head d b l m f g a x) ≡ some (new_head d b l m f g a x)
+    → f < 2 → g < 6 → a < 6 → threshold_within x ≡ true → taken (new_head d b l m f g a x) ≡ Some (new_head d b l m f g a x)
 unfolding allowed sizes_within choices_within new_head new_counters new_running within
 all-taken d b l m f g a x p q r s t u v w =
     let (one, few) = both (leb 1 m) (leb m 24) s in
@@ -134,10 +134,10 @@ all-taken d b l m f g a x p q r s t u v w =
 
 -- what the threshold of a line is: a float whose value is wrong
 abbrev pub Wrong : List ℕ → Type 0
-Wrong l = (x : Float) × (hex_float (get_or (fields_of l) 7 []) ≡ some x) × (threshold_within x ≡ false)
+Wrong l = (x : Float) × (hex_float (get_or (fields_of l) 7 []) ≡ Some x) × (threshold_within x ≡ false)
 
 -- eight fields that are as asked, and no head: the threshold's value is wrong
-eight_wrong : (l : List ℕ) → length l ≤ 200 → length (fields_of l) ≡ 8 → 8 ≤ wrong_at setting_at 0 (fields_of l) → first_line l ≡ none → Wrong l
+eight_wrong : (l : List ℕ) → length l ≤ 200 → length (fields_of l) ≡ 8 → 8 ≤ wrong_at setting_at 0 (fields_of l) → first_line l ≡ None → Wrong l
 unfolding setting_at SizesRead ChoicesRead
 eight_wrong l short n h none-set =
     let fs = fields_of l in
@@ -153,7 +153,7 @@ eight_wrong l short n h none-set =
     let set = line-eight l short n ∙ head-is fs d b c m f g a x (d₁, b₁, c₁, m₁) (f₁, g₁, a₁) x₁ in (
       x,
       x₁,
-      isnt (threshold_within x) λ w. none-ne-some _ (sym none-set ∙ set
+      isnt (threshold_within x) λ w. none-some _ (sym none-set ∙ set
           ∙ all-taken d b c m f g a x d₂ b₂ c₂ m₂ (feature_below _ f f₁) (distance_below _ g g₁) (distance_below _ a a₁) w),
     )
 
@@ -168,7 +168,7 @@ is_threshold (R.Shape n) = false
 is_threshold R.Full = false
 
 -- a line 1 that sets no head and is told as its threshold's value: that is wrong
-pub threshold_wrong : (l : List ℕ) → first_reason l ≡ R.Threshold → first_line l ≡ none → Wrong l
+pub threshold_wrong : (l : List ℕ) → first_reason l ≡ R.Threshold → first_line l ≡ None → Wrong l
 unfolding first_reason reason_of is_threshold
 threshold_wrong l e none-set =
     go (leb (length l) 200) (ends_in_return l) (eqb (length (fields_of l)) 8) (ltb (wrong_at setting_at 0 (fields_of l)) 8) refl refl refl (ap is_threshold e)

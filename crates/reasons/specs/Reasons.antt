@@ -1,10 +1,9 @@
 -- The first rule that a bad line breaks.
-use Rattle.std.specs.Prelude.{ℕ, zero, suc, ◌+◌, ◌-◌, ◌≤◌, ◌<◌, Bool, true, false, cond, ◌&&◌, ◌≡◌, refl, ltb, eqb, length, get_or}
+use Rattle.std.specs.Prelude.{ℕ, zero, suc, ◌+◌, ◌-◌, ◌≤◌, ◌<◌, Bool, true, false, cond, ◌&&◌, ◌≡◌, refl, ltb, eqb, length, get_or, Option, None, Some}
 use Rattle.std.proofs.Math.Bool.{and-false, and-true}
 use lib.Pointwise.{pointwise}
 use Rattle.std.specs.List.{ends_with}
 use mathlib.Core.List.{List, [], ◌∷◌}
-use Rattle.std.proofs.Math.Option.{Option, none, some}
 use Rattle.std.proofs.Math.Path.{sym, ap}
 use Rattle.std.proofs.Common.{◌∙◌, arith, add-one, leb-false, drop-cons}
 use Rattle.std.proofs.lemmas.Bool.{lt-leb}
@@ -23,14 +22,14 @@ ends_in_return l = eqb (get_or l (length l - 1) 0) 13
 
 module _ {A : Type 0} where
   unfoldable pub is_some : Option A → Bool
-  is_some none = false
-  is_some (some a) = true
+  is_some None = false
+  is_some (Some a) = true
 
 -- ---- one field
 
 unfoldable pub size_in : ℕ → ℕ → Option ℕ → Bool
-size_in least most none = false
-size_in least most (some n) = within least most n
+size_in least most None = false
+size_in least most (Some n) = within least most n
 
 -- dim 1 to 8, branching 2 to 16, leaf_cap 1 to 16, M 1 to 24, feature, dist, abs, threshold
 unfoldable pub setting_at : ℕ → List ℕ → Bool
@@ -93,10 +92,10 @@ return_ends (b ∷ l) =
 -- a number that code does not read is over every limit
 pub size_few : (least most : ℕ) → most ≤ 1_000_000_000 → (o : Option ℕ) → size_in least most (few o) ≡ size_in least most o
 unfolding size_in few
-size_few least most h none = refl
-size_few least most h (some n) = go (leb n 1_000_000_000) refl
+size_few least most h None = refl
+size_few least most h (Some n) = go (leb n 1_000_000_000) refl
   where
-    go : (t : Bool) → leb n 1_000_000_000 ≡ t → size_in least most (cond t (some n) none) ≡ within least most n
+    go : (t : Bool) → leb n 1_000_000_000 ≡ t → size_in least most (cond t (Some n) None) ≡ within least most n
     go true e = refl
     go false e =
         let over = leb-false n 1_000_000_000 e in

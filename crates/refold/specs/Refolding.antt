@@ -1,8 +1,8 @@
 -- One node made anew, and the nodes one after the other from the last back to the root.
-use Rattle.std.specs.Prelude.{ℕ, zero, suc, ◌≤◌, ◌<◌, ◌≡◌, false, cond, List, [], ◌∷◌, ◌++◌, map, reverse, length, get_or, Float}
+use Rattle.std.specs.Prelude.{ℕ, zero, suc, ◌≤◌, ◌<◌, ◌≡◌, false, cond, List, [], ◌∷◌, ◌++◌, map, reverse, length, get_or, Float, None, Some}
+use Rattle.std.proofs.lemmas.Option.{none-some, same_Some}
 use Rattle.std.proofs.Math.Path.{refl, sym, ap}
 use Rattle.std.proofs.Common.{◌∙◌, subst, arith}
-use Rattle.std.proofs.Math.Option.{none, some, none-ne-some, some-injective}
 use Rattle.std.proofs.lemmas.List.{length-reverse}
 use Rattle.feature.specs.declared.Summary.{Summary}
 use Rattle.head.specs.declared.Settings.{Settings}
@@ -62,10 +62,10 @@ module _ (s : Settings) (t : Tree) (u : Standing s t) where
   back_some (step rs p k up h e l inner b) = omega arith
 
   -- at the root they end
-  pub back_top : {i : ℕ} {rs : List ℕ} (v : Tree) → Backward t i rs → (node_at t i).parent ≡ none → refold_one s i v ≡ refold_all s rs v
+  pub back_top : {i : ℕ} {rs : List ℕ} (v : Tree) → Backward t i rs → (node_at t i).parent ≡ None → refold_one s i v ≡ refold_all s rs v
   unfolding refold_all
   back_top v (top e) q = refl
-  back_top v (step rs p k up h e l inner b) q = absurd (none-ne-some p (sym q ∙ up))
+  back_top v (step rs p k up h e l inner b) q = absurd (none-some p (sym q ∙ up))
 
   -- below the root, node i is made anew and those before it are left: p lists it at place k
   pub record Next (i p : ℕ) (rs : List ℕ) : Type 0 where
@@ -79,10 +79,10 @@ module _ (s : Settings) (t : Tree) (u : Standing s t) where
     pub before : Backward t (node_before t p k) rest
     pub one : (v : Tree) → refold_all s rest (refold_one s i v) ≡ refold_all s rs v
 
-  pub back_next : {i : ℕ} {rs : List ℕ} (p : ℕ) → Backward t i rs → (node_at t i).parent ≡ some p → Next i p rs
-  back_next p (top e) q = absurd (none-ne-some p (sym u.root_top ∙ ap (λ j. (node_at t j).parent) (sym e) ∙ q))
+  pub back_next : {i : ℕ} {rs : List ℕ} (p : ℕ) → Backward t i rs → (node_at t i).parent ≡ Some p → Next i p rs
+  back_next p (top e) q = absurd (none-some p (sym u.root_top ∙ ap (λ j. (node_at t j).parent) (sym e) ∙ q))
   back_next {i} p (step rs p' k up h e l inner b) q =
-      subst (λ p. Next i p (i ∷ rs)) (some-injective p' p (sym up ∙ q)) (record {
+      subst (λ p. Next i p (i ∷ rs)) (same_Some p' p (sym up ∙ q)) (record {
         rest = rs;
         k = k;
         parent_in = l;

@@ -1,10 +1,9 @@
 -- The nodes in preorder, from the last to the first, by the links alone: the node before one is the last beneath its elder sibling, or its parent.
 use Prim.Native.Nat.{ℕ, zero, suc, ◌+◌, ◌-◌, ◌≤◌, ◌<◌}
-use Rattle.std.specs.Prelude.{◌≡◌, Bool, true, false, cond, ◌⊎◌, length, take}
+use Rattle.std.specs.Prelude.{◌≡◌, Bool, true, false, cond, ◌⊎◌, length, take, Some}
 use Rattle.std.proofs.Math.Path.{refl, sym, ap, ap₂, subst}
 use Rattle.std.proofs.Common.{◌∙◌, inl, inr, take_all}
 use mathlib.Core.List.{List, [], ◌∷◌, ◌++◌, map, reverse, reverse_aux, append_assoc}
-use Rattle.std.proofs.Math.Option.{some}
 use native.Mathlib.Omega.{arith}
 use Rattle.std.proofs.Math.ListN.{get_or}
 use Rattle.head.specs.declared.Settings.{Settings}
@@ -32,7 +31,7 @@ node_before t p (suc k) = last_under t (length t.nodes) (get_or (node_at t p).li
 -- the nodes from i back to the root
 pub data Backward (t : Tree) : ℕ → List ℕ → Type 0 where
   top : {i : ℕ} → i ≡ t.root → Backward t i (i ∷ [])
-  step : {i : ℕ} (rs : List ℕ) (p k : ℕ) → (node_at t i).parent ≡ some p → k < length (node_at t p).list → get_or (node_at t p).list k 0 ≡ i → p < length t.nodes
+  step : {i : ℕ} (rs : List ℕ) (p k : ℕ) → (node_at t i).parent ≡ Some p → k < length (node_at t p).list → get_or (node_at t p).list k 0 ≡ i → p < length t.nodes
       → (node_at t p).leaf ≡ false → Backward t (node_before t p k) rs → Backward t i (i ∷ rs)
 
 -- node c and all beneath it in preorder, r levels down
@@ -278,7 +277,7 @@ module _ (s : Settings) (t : Tree) (u : Standing s t) where
           let lists : reverse (concat (map order (take (length list) list))) ++ (c ∷ rs) ≡ reverse (order c) ++ rs =
           ap (λ m. reverse (concat (map order m)) ++ (c ∷ rs)) (take_all (length list) list (omega arith))
           ∙ sym (ap (λ m. reverse m ++ rs) (order-inner c l e) ∙ turned_cons c (concat (map order list)) rs) in
-          subst (λ i. Backward t i (reverse (order c) ++ rs)) (sym (last_of_lem c l e ∙ at_last (length list) some)) (subst (Backward t (node_before t c (length list))) lists all)
+          subst (λ i. Backward t i (reverse (order c) ++ rs)) (sym (last_of_lem c l e ∙ at_last (length list) Some)) (subst (Backward t (node_before t c (length list))) lists all)
         where
           at_last : (n : ℕ) → 0 < n → last_of (get_or (node_at t c).list (n - 1) 0) ≡ node_before t c n
           at_last zero p = absurd (omega arith)

@@ -15,7 +15,6 @@ ghost use Rattle.refold.specs.Refolding.{Filled};
 use crate::fold::refold_node;
 use arena::links;
 use head::{Counters, Settings};
-use stretch::block::Parent;
 
 // Every node made anew, from the last in preorder back to the root.
 pub fn refold(s: Settings, n: Counters, floats: &mut [f64], links: &[u32], scratch: &mut [f64])
@@ -24,13 +23,11 @@ pub fn refold(s: Settings, n: Counters, floats: &mut [f64], links: &[u32], scrat
     ensures { tree_of s n floats.new links.now ≡ refolded s (tree_of s n floats.old links.now) }
 {
     let mut i = walk::last(s, n, links, n.root);
-    let mut left = n.nodes;
-    while left > 0 {
+    for _ in 0..n.nodes {
         refold_node(s, n, floats, links, i, scratch);
-        let Parent::Node(p) = links::parent(s, n, links, i) else {
+        let Some(p) = links::parent(s, n, links, i) else {
             return;
         };
         i = walk::before(s, n, links, p, i);
-        left -= 1;
     }
 }

@@ -1,7 +1,6 @@
 -- A tree with its nodes forgotten, and what a tree has to be so that all its entries are placed again.
-use Rattle.std.specs.Prelude.{ℕ, ◌≤◌, ◌<◌, ◌≡◌, true, List, [], reverse, length, Float}
+use Rattle.std.specs.Prelude.{ℕ, ◌≤◌, ◌<◌, ◌≡◌, true, List, [], reverse, length, Float, None}
 use Rattle.std.proofs.Common.{ap, ◌∙◌, arith}
-use Rattle.std.proofs.Math.Option.{none}
 use Rattle.binary64.specs.Whole.{most}
 use Rattle.feature.specs.Summaries.{blank}
 use Rattle.feature.specs.declared.Summary.{Summary}
@@ -47,11 +46,11 @@ module _ (s : Settings) (n r : Counters) (e : r ≡ cleared_counts n) where
 
   -- the root's slot and its block written
   pub cleared-is : (fs gs : List Float) (ls ks : List ℕ) → tree_of s r gs ls ≡ on_node (summed (λ _. blank)) 0 (tree_of s r fs ls)
-      → Relinked s (relinked none true []) 0 ls ks → tree_of s r gs ks ≡ cleared (tree_of s n fs ls)
+      → Relinked s (relinked None true []) 0 ls ks → tree_of s r gs ks ≡ cleared (tree_of s n fs ls)
   cleared-is fs gs ls ks p q =
-      node_relinked s r gs ls ks (relinked none true []) 0 root_cleared q ∙ ap (on_node (relinked none true []) 0) p ∙ whole
+      node_relinked s r gs ls ks (relinked None true []) 0 root_cleared q ∙ ap (on_node (relinked None true []) 0) p ∙ whole
     where
-      whole : on_node (relinked none true []) 0 (on_node (summed (λ _. blank)) 0 (tree_of s r fs ls)) ≡ cleared (tree_of s n fs ls)
+      whole : on_node (relinked None true []) 0 (on_node (summed (λ _. blank)) 0 (tree_of s r fs ls)) ≡ cleared (tree_of s n fs ls)
       whole = unfold tree_of cleared_counts root_at count_entries count_nodes on_node with_nodes change_at table snoc summed relinked node_of cleared blank_node in rw e
 
 -- ---- the whole

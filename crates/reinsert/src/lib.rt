@@ -18,7 +18,6 @@ use crate::collect::collect;
 use arena::{links, nodes};
 use grow::place_cf;
 use head::{Counters, Settings};
-use stretch::block::Parent;
 
 // An empty tree with the counters kept.
 pub fn clear(s: Settings, n: Counters, floats: &mut [f64], links: &mut [u32]) -> Counters
@@ -26,10 +25,9 @@ pub fn clear(s: Settings, n: Counters, floats: &mut [f64], links: &mut [u32]) ->
     ensures value { result ≡ cleared_counts n }
     ensures links_after { tree_of s result floats.new links.new ≡ cleared (tree_of s n floats.old links.old) }
 {
-    let none = [0u32; 1];
     let m = n.with_nodes(1).with_entries(0).with_root(0);
     nodes::put(s, m, floats, 0, feature::empty());
-    links::link(s, links, 0, Parent::NoParent, true, &none, 0);
+    links::link(s, links, 0, None, true, &[]);
     m
 }
 

@@ -1,6 +1,5 @@
 -- The tree check: eight conditions, and the lowest that fails.
-use Rattle.std.specs.Prelude.{ℕ, zero, suc, ◌+◌, ◌<◌, Bool, true, false, cond, ◌||◌, ◌&&◌, not, List, [], ◌∷◌, ◌++◌, map, length, T, leb, ltb, eqb}
-use Rattle.std.proofs.Math.Option.{Option, none, some}
+use Rattle.std.specs.Prelude.{ℕ, zero, suc, ◌+◌, ◌<◌, Bool, true, false, cond, ◌||◌, ◌&&◌, not, List, [], ◌∷◌, ◌++◌, map, length, T, leb, ltb, eqb, Option, None, Some}
 use Rattle.std.specs.Float.Ieee.{eq, fits}
 use Rattle.std.specs.Float.{binary64}
 use Rattle.binary64.specs.Whole.{whole, most}
@@ -21,8 +20,8 @@ sized s t = leb 1 (length t.nodes) && leb (length t.nodes) (node_cap s) && leb (
 
 -- 2. The root exists and has no parent.
 unfoldable pub orphan : Option ℕ → Bool
-orphan none = true
-orphan (some p) = false
+orphan None = true
+orphan (Some p) = false
 
 unfoldable pub rooted : Tree → Bool
 rooted t = ltb t.root (length t.nodes) && orphan (node_at t t.root).parent
@@ -55,8 +54,8 @@ unfoldable pub once_each : ℕ → List ℕ → Bool
 once_each n l = eqb (length l) n && every (λ i. eqb (occurs i l) 1) (up_from n 0)
 
 unfoldable pub names : ℕ → Option ℕ → Bool
-names i none = false
-names i (some p) = eqb i p
+names i None = false
+names i (Some p) = eqb i p
 
 -- the nodes that node i lists name it as their parent
 unfoldable pub own_list : Tree → ℕ → Bool

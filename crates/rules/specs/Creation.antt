@@ -1,7 +1,6 @@
 -- What creation leaves: the fresh tree's counters, its words, zeros past its counts, and the surplus as lent.
-use Rattle.std.specs.Prelude.{ℕ, zero, suc, ◌-◌, ◌≤◌, refl, List, [], ◌∷◌, length, get_or, Float}
+use Rattle.std.specs.Prelude.{ℕ, zero, suc, ◌-◌, ◌≤◌, refl, List, [], ◌∷◌, length, get_or, Float, Some}
 use Rattle.std.proofs.Math.Path.{◌≡◌, ap}
-use Rattle.std.proofs.Math.Option.{some}
 use native.Mathlib.Omega.{arith}
 use Rattle.feature.specs.Shape.{Shaped, blank_shaped}
 use Rattle.head.specs.declared.Head.{Head}
@@ -35,7 +34,7 @@ fresh_fits s threshold =
     empty zero e = unfold blank_node in omega arith
     empty (suc i) e = absurd (omega arith)
 
-    orphan : (i : ℕ) → i ≡ 0 → (get_or (blank_node ∷ []) i blank_node).parent ≡ some no_parent → ⊥
+    orphan : (i : ℕ) → i ≡ 0 → (get_or (blank_node ∷ []) i blank_node).parent ≡ Some no_parent → ⊥
     orphan zero e q = unfold blank_node in (let z : ◌≡◌ {A = ℕ} 0 1 = cc in absurd (omega arith))
     orphan (suc i) e q = absurd (omega arith)
 

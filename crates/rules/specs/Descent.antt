@@ -1,13 +1,10 @@
 -- Descent to a leaf, the search in it, and the way back up.
-use Rattle.std.specs.Prelude.{ℕ, zero, suc, true, false, cond, List, [], ◌∷◌, length, get_or, Float}
-use Rattle.std.proofs.Math.Option.{Option, none, some}
+use Rattle.std.specs.Prelude.{ℕ, zero, suc, true, false, cond, List, [], ◌∷◌, length, get_or, Float, Option, None, Some}
 use Rattle.std.specs.Float.Ieee.{lt}
 use Rattle.binary64.specs.Operators.{infinity}
 use Rattle.feature.specs.declared.Summary.{Summary}
 use Rattle.rules.specs.Lists.{change_at}
 use Rattle.rules.specs.Tree.{Node, Tree, blank_node, node_at, with_nodes, summed}
-use Rattle.rules.specs.declared.Nearest.{Nearest}
-use Rattle.rules.specs.declared.Nearest.TheVariants.{Entry, Nothing}
 
 -- ---- the closest of a list
 
@@ -46,25 +43,25 @@ leaf_for t f = descended t f (length t.nodes) t.root
 -- ---- the search in a leaf: from infinity, so that it may give nothing
 
 pub record Search : Type 0 where
-  pub near : Nearest
+  pub near : Option ℕ
   pub least : Float
 
 unfoldable pub better : Search → ℕ → Float → Search
-better b j e = cond (lt e b.least) (record { near = Entry j; least = e }) b
+better b j e = cond (lt e b.least) (record { near = Some j; least = e }) b
 
 unfoldable pub searching : (ℕ → Float) → Search → List ℕ → Search
 searching f b [] = b
 searching f b (c ∷ cs) = searching f (better b c (f c)) cs
 
-unfoldable pub searched : (ℕ → Float) → List ℕ → Nearest
-searched f l = (searching f (record { near = Nothing; least = infinity }) l).near
+unfoldable pub searched : (ℕ → Float) → List ℕ → Option ℕ
+searched f l = (searching f (record { near = None; least = infinity }) l).near
 
 -- ---- the path up: the summary of each node from n to the root changed; k steps at most
 
 unfoldable pub climbed : (Summary → Summary) → ℕ → Option ℕ → List Node → List Node
 climbed f zero n ns = ns
-climbed f (suc k) none ns = ns
-climbed f (suc k) (some n) ns = climbed f k (get_or ns n blank_node).parent (change_at (summed f) n ns)
+climbed f (suc k) None ns = ns
+climbed f (suc k) (Some n) ns = climbed f k (get_or ns n blank_node).parent (change_at (summed f) n ns)
 
 unfoldable pub along_path : (Summary → Summary) → ℕ → Tree → Tree
-along_path f n t = with_nodes (climbed f (length t.nodes) (some n) t.nodes) t
+along_path f n t = with_nodes (climbed f (length t.nodes) (Some n) t.nodes) t

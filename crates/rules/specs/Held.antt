@@ -1,7 +1,6 @@
 -- The tree that lent slices hold, part by part; if it passes the check, it fits its slots.
-use Rattle.std.specs.Prelude.{ℕ, zero, suc, ◌+◌, ◌-◌, ◌≤◌, ◌<◌, ◌≡◌, refl, Bool, true, false, cond, ◌&&◌, List, [], ◌∷◌, eqb, length, get_or, replicate, Float}
+use Rattle.std.specs.Prelude.{ℕ, zero, suc, ◌+◌, ◌-◌, ◌≤◌, ◌<◌, ◌≡◌, refl, Bool, true, false, cond, ◌&&◌, List, [], ◌∷◌, eqb, length, get_or, replicate, Float, None, Some}
 use Rattle.std.proofs.Common.{sym, ap, ◌∙◌, true≢false, arith}
-use Rattle.std.proofs.Math.Option.{none, some}
 use borrow.Author.Tests.{leb-true, eq-eqb}
 use Rattle.std.proofs.Math.Dec.{leb}
 use Rattle.std.specs.Float.Ieee.Bits.{is_true}
@@ -51,16 +50,16 @@ cap_in s true = omega arith
 cap_in s false = omega arith
 
 -- the reserved number is the largest of a u32, and no node's
-pub reserved : (parent_out none ≡ 0xffff_ffff) × ((s : Settings) → Sized s → node_cap s ≤ parent_out none)
+pub reserved : (parent_out None ≡ 0xffff_ffff) × ((s : Settings) → Sized s → node_cap s ≤ parent_out None)
 unfolding parent_out
 reserved = (refl, λ s z. let n = nodes_small s z in omega arith)
 
 -- the number that stands for no parent is never a parent's
-parent_other : (w : ℕ) → parent_in w ≡ some no_parent → ⊥
+parent_other : (w : ℕ) → parent_in w ≡ Some no_parent → ⊥
 unfolding parent_in
 parent_other w e = go (eqb w no_parent) refl e
   where
-    go : (b : Bool) → eqb w no_parent ≡ b → cond b none (some w) ≡ some no_parent → ⊥
+    go : (b : Bool) → eqb w no_parent ≡ b → cond b None (Some w) ≡ Some no_parent → ⊥
     go true q e = let z : ◌≡◌ {A = ℕ} 0 1 = cc in absurd (omega arith)
     go false q e = let z : w ≡ no_parent = cc in true≢false (sym (eq-eqb w no_parent z) ∙ q)
 

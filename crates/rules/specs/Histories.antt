@@ -1,6 +1,5 @@
 -- A history: calls on a tree, and what each answers as numbers, so that answers of the Rust stand beside what the rules compute.
-use Rattle.std.specs.Prelude.{ℕ, suc, ◌*◌, ◌/◌, ◌≡◌, cond, List, [], ◌∷◌, ◌++◌, map, length, take, replicate, Float}
-use Rattle.std.proofs.Math.Option.{Option, none, some}
+use Rattle.std.specs.Prelude.{ℕ, suc, ◌*◌, ◌/◌, ◌≡◌, cond, List, [], ◌∷◌, ◌++◌, map, length, take, replicate, Float, Option, None, Some}
 use Rattle.std.specs.Float.{binary64}
 use Rattle.std.specs.Float.Ieee.{of_bits, to_bits}
 use Rattle.binary64.specs.Operators.{f0}
@@ -36,8 +35,8 @@ summary_seen s c = bits c.weight ∷ (map bits (take s.dim c.mean) ++ map bits (
 
 -- 0 for no parent, n + 1 for node n
 unfoldable pub parent_seen : Option ℕ → ℕ
-parent_seen none = 0
-parent_seen (some p) = suc p
+parent_seen None = 0
+parent_seen (Some p) = suc p
 
 unfoldable pub node_seen : Settings → Node → List ℕ
 node_seen s n = parent_seen n.parent ∷ cond n.leaf 1 0 ∷ length n.list ∷ (n.list ++ summary_seen s n.summary)

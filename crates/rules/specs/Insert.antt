@@ -1,5 +1,5 @@
 -- One row in, before any rebuild; and whatever else comes into a tree the same way.
-use Rattle.std.specs.Prelude.{ℕ, Bool, cond, List, length, Float}
+use Rattle.std.specs.Prelude.{ℕ, Bool, cond, List, length, Float, Option, None, Some}
 use Rattle.std.specs.Float.Ieee.{le}
 use Rattle.feature.specs.Summaries.{blank}
 use Rattle.feature.specs.declared.Summary.{Summary}
@@ -8,8 +8,6 @@ use Rattle.rules.specs.Lists.{change_at, snoc}
 use Rattle.rules.specs.Tree.{Tree, push, merge, dist_to, abs_to, dist_between, abs_between, row_count, node_at, entry_at, with_nodes, with_entries, adding}
 use Rattle.rules.specs.Descent.{leaf_for, searched, along_path}
 use Rattle.rules.specs.Split.{split_from}
-use Rattle.rules.specs.declared.Nearest.{Nearest}
-use Rattle.rules.specs.declared.Nearest.TheVariants.{Entry, Nothing}
 
 -- What comes into a tree: its `dist` and its `abs` to a summary, a summary with it taken in, what it is alone, and how many rows it stands for.
 pub record Item : Type 0 where
@@ -40,9 +38,9 @@ unfoldable pub absorbs : Item → ℕ → Tree → Bool
 absorbs i e t = le (i.gap (entry_at t e)) t.running.threshold
 
 -- all else begins an entry
-unfoldable pub absorbed_or_begun : Item → ℕ → Nearest → Tree → Tree
-absorbed_or_begun i l Nothing t = begun l i.alone t
-absorbed_or_begun i l (Entry e) t = cond (absorbs i e t) (absorbed i e t) (begun l i.alone t)
+unfoldable pub absorbed_or_begun : Item → ℕ → Option ℕ → Tree → Tree
+absorbed_or_begun i l None t = begun l i.alone t
+absorbed_or_begun i l (Some e) t = cond (absorbs i e t) (absorbed i e t) (begun l i.alone t)
 
 unfoldable pub placed : Item → ℕ → Tree → Tree
 placed i l t = absorbed_or_begun i l (searched (λ e. i.near (entry_at t e)) (node_at t l).list) t

@@ -1,10 +1,9 @@
 -- A lent tree stored again: every word below the counts is as lent. So zero rows alter nothing but the zeroing.
 use Prim.Native.Nat.{ℕ, zero, suc, ◌+◌, ◌-◌, ◌*◌, ◌/◌, ◌%◌, ◌≤◌, ◌<◌, min}
-use Rattle.std.specs.Prelude.{◌≡◌, Bool, true, cond, List, [], ◌++◌, ◌⊎◌, eqb, take, drop, replicate, Float}
+use Rattle.std.specs.Prelude.{◌≡◌, Bool, true, cond, List, [], ◌++◌, ◌⊎◌, eqb, take, drop, replicate, Float, None, Some}
 use Rattle.std.proofs.Math.Path.{refl, ap}
 use Rattle.std.proofs.Common.{sym, ◌∙◌, inl, inr}
 use Rattle.std.proofs.Math.Bool.{false}
-use Rattle.std.proofs.Math.Option.{none, some}
 use Rattle.std.proofs.Math.Logic.{⊎_elim}
 use borrow.Author.Tests.{eqb-true, eqb-false, eq-eqb}
 use Rattle.std.proofs.Math.Nat.{add-mul, mul-le-mul_right, zero-div}
@@ -54,7 +53,7 @@ parent_again : (w : ℕ) → parent_out (parent_in w) ≡ w
 unfolding parent_in parent_out
 parent_again w = go (eqb w no_parent) refl
   where
-    go : (b : Bool) → eqb w no_parent ≡ b → parent_out (cond b none (some w)) ≡ w
+    go : (b : Bool) → eqb w no_parent ≡ b → parent_out (cond b None (Some w)) ≡ w
     go true e = sym (eqb-true w no_parent e)
     go false e = refl
 

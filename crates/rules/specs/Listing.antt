@@ -1,6 +1,5 @@
 -- What `rowlist` writes for what it reads, byte for byte.
-use Rattle.std.specs.Prelude.{ℕ, zero, suc, ◌+◌, ◌-◌, ◌*◌, ◌/◌, ◌%◌, Bool, true, false, cond, ◌||◌, ◌&&◌, not, List, [], ◌∷◌, ◌++◌, map, reverse, length, get_or, take, leb, ltb, eqb, Float}
-use Rattle.std.proofs.Math.Option.{Option, none, some}
+use Rattle.std.specs.Prelude.{ℕ, zero, suc, ◌+◌, ◌-◌, ◌*◌, ◌/◌, ◌%◌, Bool, true, false, cond, ◌||◌, ◌&&◌, not, List, [], ◌∷◌, ◌++◌, map, reverse, length, get_or, take, leb, ltb, eqb, Float, Option, None, Some}
 use Prim.Native.String.{String, [] as noText, ◌∷◌ as ◌∷ˢ◌}
 use Prim.Native.Char.{code}
 use Rattle.std.specs.Float.{binary64}
@@ -46,46 +45,46 @@ fields_of line = cut 9 true [] line
 
 module _ {A B : Type 0} where
   unfoldable pub and_then : Option A → (A → Option B) → Option B
-  and_then none f = none
-  and_then (some a) f = f a
+  and_then None f = None
+  and_then (Some a) f = f a
 
 -- a line of over 200 bytes, newline not counted, is not read
 unfoldable pub fields_in : List ℕ → Option (List (List ℕ))
-fields_in line = cond (leb (length line) 200) (some (fields_of line)) none
+fields_in line = cond (leb (length line) 200) (Some (fields_of line)) None
 
 -- ---- numbers
 
 unfoldable pub digit : ℕ → Option ℕ
-digit b = cond (leb 48 b && leb b 57) (some (b - 48)) none
+digit b = cond (leb 48 b && leb b 57) (Some (b - 48)) None
 
 unfoldable pub hex_digit : ℕ → Option ℕ
-hex_digit b = cond (leb 97 b && leb b 102) (some (b - 87)) (digit b)
+hex_digit b = cond (leb 97 b && leb b 102) (Some (b - 87)) (digit b)
 
 -- n with the digits bs behind it, in base r
 unfoldable pub number_from : (ℕ → Option ℕ) → ℕ → ℕ → List ℕ → Option ℕ
-number_from f r n [] = some n
+number_from f r n [] = Some n
 number_from f r n (b ∷ bs) = and_then (f b) λ d. number_from f r (n * r + d) bs
 
 -- decimal without sign or leading zeros
 unfoldable pub decimal : List ℕ → Option ℕ
-decimal [] = none
+decimal [] = None
 decimal (b ∷ []) = digit b
-decimal (b ∷ c ∷ bs) = cond (eqb b 48) none (number_from digit 10 0 (b ∷ c ∷ bs))
+decimal (b ∷ c ∷ bs) = cond (eqb b 48) None (number_from digit 10 0 (b ∷ c ∷ bs))
 
 -- a float is the 16 lowercase hex digits of its bits
 unfoldable pub hex_float : List ℕ → Option Float
-hex_float bs = and_then (cond (eqb (length bs) 16) (number_from hex_digit 16 0 bs) none) λ n. some (of_bits binary64 n)
+hex_float bs = and_then (cond (eqb (length bs) 16) (number_from hex_digit 16 0 bs) None) λ n. Some (of_bits binary64 n)
 
 unfoldable pub hex_floats : List (List ℕ) → Option (List Float)
-hex_floats [] = some []
-hex_floats (f ∷ fs) = and_then (hex_float f) λ x. and_then (hex_floats fs) λ xs. some (x ∷ xs)
+hex_floats [] = Some []
+hex_floats (f ∷ fs) = and_then (hex_float f) λ x. and_then (hex_floats fs) λ xs. Some (x ∷ xs)
 
 -- ---- line 1: dim, branching, leaf_cap, M, feature, dist, abs, threshold
 
 -- the place of a word in a list of words
 unfoldable pub word_at : ℕ → List String → List ℕ → Option ℕ
-word_at n [] l = none
-word_at n (w ∷ ws) l = cond (same l (bytes w)) (some n) (word_at (suc n) ws l)
+word_at n [] l = None
+word_at n (w ∷ ws) l = cond (same l (bytes w)) (Some n) (word_at (suc n) ws l)
 
 unfoldable pub feature_word : List ℕ → Option ℕ
 feature_word l = word_at 0 ("spherical" ∷ "diagonal" ∷ []) l
@@ -95,7 +94,7 @@ distance_word l = word_at 0 ("euclidean" ∷ "manhattan" ∷ "inter" ∷ "intra"
 
 -- M at most 24, and within the limits of every head
 unfoldable pub taken : Head → Option Head
-taken h = cond (leb h.max_leaves 24 && allowed h) (some h) none
+taken h = cond (leb h.max_leaves 24 && allowed h) (Some h) None
 
 unfoldable pub head_from : List (List ℕ) → Option Head
 head_from fs =
@@ -106,14 +105,14 @@ head_from fs =
 
 -- eight fields, no more
 unfoldable pub first_line : List ℕ → Option Head
-first_line l = and_then (fields_in l) λ fs. cond (eqb (length fs) 8) (head_from fs) none
+first_line l = and_then (fields_in l) λ fs. cond (eqb (length fs) 8) (head_from fs) None
 
 -- ---- rows
 
 -- the tree with the row in, unless the call refuses it
 unfoldable pub row_in : Settings → Tree → List Float → List Refusal → Option Tree
-row_in s t x [] = some (inserted s x t)
-row_in s t x (r ∷ rs) = none
+row_in s t x [] = Some (inserted s x t)
+row_in s t x (r ∷ rs) = None
 
 unfoldable pub line_in : Settings → Tree → List ℕ → Option Tree
 line_in s t l = and_then (fields_in l) λ fs. and_then (hex_floats fs) λ x. row_in s t x (row_asked s t x)
@@ -166,11 +165,11 @@ bad_line n = line_of (bytes "bad" ∷ decimal_of n ∷ [])
 -- the lines from number n on; the first that is malformed, refused or too long ends it
 unfoldable pub rows_listed : Settings → ℕ → List (List ℕ) → Tree → List ℕ
 rows_listed s n [] t = report s t
-rows_listed s n (l ∷ ls) t = elim (line_in s t l) [ none ↦ bad_line n | some u ↦ rows_listed s (suc n) ls u ]
+rows_listed s n (l ∷ ls) t = elim (line_in s t l) [ None ↦ bad_line n | Some u ↦ rows_listed s (suc n) ls u ]
 
 unfoldable pub lines_listed : List (List ℕ) → List ℕ
 lines_listed [] = bad_line 1
-lines_listed (l ∷ ls) = elim (first_line l) [ none ↦ bad_line 1 | some h ↦ rows_listed (settings_of h) 2 ls (fresh h.counters.running.threshold) ]
+lines_listed (l ∷ ls) = elim (first_line l) [ None ↦ bad_line 1 | Some h ↦ rows_listed (settings_of h) 2 ls (fresh h.counters.running.threshold) ]
 
 unfoldable pub rowlist : List ℕ → List ℕ
 rowlist input = lines_listed (lines_of input)

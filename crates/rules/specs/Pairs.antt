@@ -1,6 +1,5 @@
 -- Which entries a rebuild merges, and in which order.
-use Rattle.std.specs.Prelude.{ℕ, Bool, true, false, cond, ◌&&◌, not, List, [], ◌∷◌, ◌++◌, length, ltb, eqb, Float}
-use Rattle.std.proofs.Math.Option.{Option, none, some}
+use Rattle.std.specs.Prelude.{ℕ, Bool, true, false, cond, ◌&&◌, not, List, [], ◌∷◌, ◌++◌, length, ltb, eqb, Float, Option, None, Some}
 use Rattle.std.specs.Float.Ieee.{lt}
 use Rattle.binary64.specs.Values.{ranked}
 use Rattle.distance.specs.Distances.{merge_cost}
@@ -17,8 +16,8 @@ cost_of s t i j = ranked (merge_cost s.dim (entry_at t i) (entry_at t j))
 
 -- the first on a tie
 unfoldable pub cheaper : Option Best → ℕ → Float → Option Best
-cheaper none j c = some (best j c)
-cheaper (some b) j c = some (closer b j c)
+cheaper None j c = Some (best j c)
+cheaper (Some b) j c = Some (closer b j c)
 
 -- the cheapest partner of entry i in a group
 unfoldable pub partner : (ℕ → Float) → ℕ → Option Best → List ℕ → Option Best
@@ -26,13 +25,13 @@ partner f i b [] = b
 partner f i b (j ∷ js) = elim (eqb j i) [ true ↦ partner f i b js | false ↦ partner f i (cheaper b j (f j)) js ]
 
 unfoldable pub pair_of : ℕ → Option Best → List Pair
-pair_of i none = []
-pair_of i (some (best j c)) = record { cost = c; one = i; two = j } ∷ []
+pair_of i None = []
+pair_of i (Some (best j c)) = record { cost = c; one = i; two = j } ∷ []
 
 -- each entry of a list with its partner in the group g
 unfoldable pub partners : Settings → Tree → List ℕ → List ℕ → List Pair
 partners s t g [] = []
-partners s t g (i ∷ is) = pair_of i (partner (cost_of s t i) i none g) ++ partners s t g is
+partners s t g (i ∷ is) = pair_of i (partner (cost_of s t i) i None g) ++ partners s t g is
 
 -- ---- the groups: leaves, or only if no leaf has two entries, cousins under one parent
 

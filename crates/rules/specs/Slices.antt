@@ -1,6 +1,5 @@
 -- Where a tree stands in the lent slices: node i has float slot i and link block i, entry i the float slot i past the nodes' slots.
-use Rattle.std.specs.Prelude.{ℕ, ◌+◌, ◌-◌, ◌*◌, ◌/◌, ◌%◌, min, Bool, true, false, cond, List, ◌∷◌, ◌++◌, map, length, get_or, take, drop, replicate, eqb, Float}
-use Rattle.std.proofs.Math.Option.{Option, none, some}
+use Rattle.std.specs.Prelude.{ℕ, ◌+◌, ◌-◌, ◌*◌, ◌/◌, ◌%◌, min, Bool, true, false, cond, List, ◌∷◌, ◌++◌, map, length, get_or, take, drop, replicate, eqb, Float, Option, None, Some}
 use Rattle.binary64.specs.Operators.{f0}
 use Rattle.kernels.specs.Channels.{at, up_to}
 use Rattle.feature.specs.Summaries.{slots_of}
@@ -39,11 +38,11 @@ abbrev pub no_parent : ℕ
 no_parent = 4294967295
 
 unfoldable pub parent_in : ℕ → Option ℕ
-parent_in w = cond (eqb w no_parent) none (some w)
+parent_in w = cond (eqb w no_parent) None (Some w)
 
 unfoldable pub parent_out : Option ℕ → ℕ
-parent_out none = no_parent
-parent_out (some p) = p
+parent_out None = no_parent
+parent_out (Some p) = p
 
 -- twice the length, and one more for a leaf
 unfoldable pub leaf_in : ℕ → Bool

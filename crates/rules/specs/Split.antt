@@ -1,7 +1,6 @@
 -- The split of a list that is over its cap, and its way up to a new root.
-use Rattle.std.specs.Prelude.{ℕ, zero, suc, Bool, true, false, cond, ◌||◌, ◌&&◌, not, length, get_or, set, leb, eqb, Float}
+use Rattle.std.specs.Prelude.{ℕ, zero, suc, Bool, true, false, cond, ◌||◌, ◌&&◌, not, length, get_or, set, leb, eqb, Float, Option, None, Some}
 use mathlib.Core.List.{List, [], ◌∷◌, map, foldl}
-use Rattle.std.proofs.Math.Option.{Option, none, some}
 use Rattle.std.specs.Float.Ieee.{lt, eq}
 use Rattle.binary64.specs.Operators.{f0}
 use Rattle.feature.specs.Summaries.{blank}
@@ -84,7 +83,7 @@ split s i t =
 unfoldable pub crowned : Settings → ℕ → ℕ → Tree → Tree
 crowned s i j t =
     let r = length t.nodes in
-    let top : Node = record { summary = gathered s t false (i ∷ j ∷ []); list = i ∷ j ∷ []; leaf = false; parent = none } in
+    let top : Node = record { summary = gathered s t false (i ∷ j ∷ []); list = i ∷ j ∷ []; leaf = false; parent = None } in
     with_root r (with_nodes (snoc (change_at (under r) j (change_at (under r) i t.nodes)) top) t)
 
 unfoldable pub fitting : Settings → Tree → ℕ → Bool
@@ -92,8 +91,8 @@ fitting s t i = leb (length (node_at t i).list) (cap s (node_at t i).leaf)
 
 -- what follows a split of i into i and j: a new root, or j goes last into the parent's list and the parent is looked at
 unfoldable pub split_next : Settings → (ℕ → Tree → Tree) → ℕ → ℕ → Option ℕ → Tree → Tree
-split_next s go i j none u = crowned s i j u
-split_next s go i j (some p) u = go p (with_nodes (change_at (adding j) p u.nodes) u)
+split_next s go i j None u = crowned s i j u
+split_next s go i j (Some p) u = go p (with_nodes (change_at (adding j) p u.nodes) u)
 
 unfoldable pub split_if : Settings → (ℕ → Tree → Tree) → ℕ → Bool → Tree → Tree
 split_if s go i true t = t

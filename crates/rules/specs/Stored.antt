@@ -1,11 +1,10 @@
 -- Reading back what was stored: a tree that fits its slots is the one that its floats and links hold, whatever lies behind them.
 use Prim.Native.Nat.{ℕ, suc, ◌+◌, ◌-◌, ◌*◌, ◌%◌, ◌≤◌, ◌<◌}
-use Rattle.std.specs.Prelude.{◌≡◌, Bool, get_or}
+use Rattle.std.specs.Prelude.{◌≡◌, Bool, get_or, Option, None, Some}
 use Rattle.std.proofs.Math.Path.{refl, ap, ap₂}
 use Rattle.std.proofs.Common.{sym, ◌∙◌, ⊎_elim, mul-le-mul_right, length-append, length-take-le, get_or-take, ext_get_or}
 use Rattle.std.proofs.Math.Bool.{true, false}
 use mathlib.Core.List.{List, [], ◌∷◌, ◌++◌, map, append_assoc}
-use Rattle.std.proofs.Math.Option.{Option, none, some}
 use Rattle.std.proofs.Math.Nat.{add-mul}
 use native.Mathlib.Omega.{arith}
 use borrow.Author.Tests.{eq-eqb, ne_eqb}
@@ -35,7 +34,7 @@ pub record Fits (s : Settings) (t : Tree) : Type 0 where
   pub nodes_few : length t.nodes ≤ node_cap s
   pub entries_few : length t.entries ≤ entry_cap s
   pub lists_few : (i : ℕ) → i < length t.nodes → length (node_at t i).list ≤ block_width s - 2
-  pub parents : (i : ℕ) → i < length t.nodes → (node_at t i).parent ≡ some no_parent → ⊥
+  pub parents : (i : ℕ) → i < length t.nodes → (node_at t i).parent ≡ Some no_parent → ⊥
   pub nodes_shaped : (i : ℕ) → i < length t.nodes → Shaped s.feature s.dim (node_at t i).summary
   pub entries_shaped : (i : ℕ) → i < length t.entries → Shaped s.feature s.dim (entry_at t i)
 
@@ -98,10 +97,10 @@ module _ (s : Settings) (z : Sized s) where
 
   -- ---- a node's links
 
-  pub parent_back : (p : Option ℕ) → (p ≡ some no_parent → ⊥) → parent_in (parent_out p) ≡ p
+  pub parent_back : (p : Option ℕ) → (p ≡ Some no_parent → ⊥) → parent_in (parent_out p) ≡ p
   unfolding parent_in parent_out
-  parent_back none h = refl
-  parent_back (some p) h = rw (ne_eqb p no_parent (λ e. h (ap some e)))
+  parent_back None h = refl
+  parent_back (Some p) h = rw (ne_eqb p no_parent (λ e. h (ap Some e)))
 
   pub leaf_back : (b : Bool) (n : ℕ) → leaf_in (kind_out b n) ≡ b
   unfolding leaf_in kind_out
@@ -117,7 +116,7 @@ module _ (s : Settings) (z : Sized s) where
   unfolding block_out block_width
   block_long n h = length-filled (block_width s) 0 (parent_out n.parent ∷ kind_out n.leaf (length n.list) ∷ n.list) (omega arith)
 
-  pub node_back : (n : Node) → length n.list ≤ block_width s - 2 → (n.parent ≡ some no_parent → ⊥) → Shaped s.feature s.dim n.summary
+  pub node_back : (n : Node) → length n.list ≤ block_width s - 2 → (n.parent ≡ Some no_parent → ⊥) → Shaped s.feature s.dim n.summary
       → node_in s (summary_out s n.summary) (block_out s n) ≡ n
   unfolding node_in block_out filled_to
   node_back n h p c =

@@ -1,6 +1,5 @@
 -- Histories that decide a rule each, with the Rust's answers (oracle/small_histories and oracle/as_cases made them).
-use Rattle.std.specs.Prelude.{refl, true, List, [], ◌∷◌}
-use Rattle.std.proofs.Math.Option.{none}
+use Rattle.std.specs.Prelude.{refl, true, List, [], ◌∷◌, None}
 use Rattle.std.specs.Float.{binary64}
 use Rattle.std.specs.Float.Ieee.{of_bits}
 use Rattle.feature.specs.declared.Feature.TheVariants.{Spherical, Diagonal}
@@ -14,7 +13,7 @@ taught =
     -- only the `dist` winner is tested: entry 1 is within the threshold, entry 0 is closer and is not
     record {
       settings = record { dim = 1; branching = 2; leaf_cap = 4; max_leaves = 24; feature = Spherical; dist = CentroidEuclidean; abs = AverageIntercluster };
-      start = record { nodes = record { summary = summary 0x4008000000000000 (0x4008000000000000 ∷ []) (0x409f400000000000 ∷ []); list = (0 ∷ 1 ∷ []); leaf = true; parent = none } ∷ []; entries = summary 0x4000000000000000 (0x0000000000000000 ∷ []) (0x409f400000000000 ∷ []) ∷ summary 0x3ff0000000000000 (0x4024000000000000 ∷ []) (0x0000000000000000 ∷ []) ∷ []; root = 0; running = record { threshold = of_bits binary64 0x4059000000000000; rebuilds = 0; merged = 0 } };
+      start = record { nodes = record { summary = summary 0x4008000000000000 (0x4008000000000000 ∷ []) (0x409f400000000000 ∷ []); list = (0 ∷ 1 ∷ []); leaf = true; parent = None } ∷ []; entries = summary 0x4000000000000000 (0x0000000000000000 ∷ []) (0x409f400000000000 ∷ []) ∷ summary 0x3ff0000000000000 (0x4024000000000000 ∷ []) (0x0000000000000000 ∷ []) ∷ []; root = 0; running = record { threshold = of_bits binary64 0x4059000000000000; rebuilds = 0; merged = 0 } };
       calls = Insert (0x3ff0000000000000 ∷ []) ∷ State ∷ [];
       says = ([] ∷ []) ∷ ((0x4059000000000000 ∷ 0 ∷ 0 ∷ 1 ∷ 3 ∷ 0 ∷ []) ∷ (0 ∷ 1 ∷ 3 ∷ 0 ∷ 1 ∷ 2 ∷ 0x4010000000000000 ∷ 0x4004000000000000 ∷ 0x409f4c0000000000 ∷ []) ∷ (0x4000000000000000 ∷ 0x0000000000000000 ∷ 0x409f400000000000 ∷ []) ∷ (0x3ff0000000000000 ∷ 0x4024000000000000 ∷ 0x0000000000000000 ∷ []) ∷ (0x3ff0000000000000 ∷ 0x3ff0000000000000 ∷ 0x0000000000000000 ∷ []) ∷ []) ∷ [];
     }
@@ -35,7 +34,7 @@ taught =
     -- of a pair the entry that named the partner survives
     ∷ record {
       settings = record { dim = 1; branching = 2; leaf_cap = 3; max_leaves = 3; feature = Diagonal; dist = CentroidEuclidean; abs = CentroidEuclidean };
-      start = record { nodes = record { summary = summary 0x4014000000000000 (0xc000000000000000 ∷ []) (0x4008000000000000 ∷ []); list = (2 ∷ 1 ∷ 0 ∷ []); leaf = true; parent = none } ∷ []; entries = summary 0x4000000000000000 (0x4000000000000000 ∷ []) (0x4008000000000000 ∷ []) ∷ summary 0x4000000000000000 (0x0000000000000000 ∷ []) (0x4008000000000000 ∷ []) ∷ summary 0x3ff0000000000000 (0x4000000000000000 ∷ []) (0x4000000000000000 ∷ []) ∷ []; root = 0; running = record { threshold = of_bits binary64 0x8000000000000000; rebuilds = 18446744073709551614; merged = 0 } };
+      start = record { nodes = record { summary = summary 0x4014000000000000 (0xc000000000000000 ∷ []) (0x4008000000000000 ∷ []); list = (2 ∷ 1 ∷ 0 ∷ []); leaf = true; parent = None } ∷ []; entries = summary 0x4000000000000000 (0x4000000000000000 ∷ []) (0x4008000000000000 ∷ []) ∷ summary 0x4000000000000000 (0x0000000000000000 ∷ []) (0x4008000000000000 ∷ []) ∷ summary 0x3ff0000000000000 (0x4000000000000000 ∷ []) (0x4000000000000000 ∷ []) ∷ []; root = 0; running = record { threshold = of_bits binary64 0x8000000000000000; rebuilds = 18446744073709551614; merged = 0 } };
       calls = Validate ∷ Insert (0x3ff0000000000000 ∷ []) ∷ State ∷ Spread ∷ Batch (0x0000000000000000 ∷ 0xc000000000000000 ∷ 0x4000000000000000 ∷ []) ∷ State ∷ [];
       says = ([] ∷ []) ∷ ([] ∷ []) ∷ ((0x8000000000000000 ∷ 18446744073709551615 ∷ 1 ∷ 3 ∷ 3 ∷ 2 ∷ []) ∷ (3 ∷ 1 ∷ 1 ∷ 1 ∷ 0x4008000000000000 ∷ 0x4000000000000000 ∷ 0x4014000000000000 ∷ []) ∷ (3 ∷ 1 ∷ 2 ∷ 0 ∷ 2 ∷ 0x4008000000000000 ∷ 0x3fd5555555555555 ∷ 0x400d555555555555 ∷ []) ∷ (0 ∷ 0 ∷ 2 ∷ 0 ∷ 1 ∷ 0x4018000000000000 ∷ 0x3ff2aaaaaaaaaaaa ∷ 0x4029aaaaaaaaaaaa ∷ []) ∷ (0x4000000000000000 ∷ 0x0000000000000000 ∷ 0x4008000000000000 ∷ []) ∷ (0x4008000000000000 ∷ 0x4000000000000000 ∷ 0x4014000000000000 ∷ []) ∷ (0x3ff0000000000000 ∷ 0x3ff0000000000000 ∷ 0x0000000000000000 ∷ []) ∷ []) ∷ ((0x3ff8000000000000 ∷ 0x3ffaaaaaaaaaaaab ∷ 0x0000000000000000 ∷ []) ∷ []) ∷ ([] ∷ []) ∷ ((0x3ff0000000000004 ∷ 18446744073709551615 ∷ 2 ∷ 3 ∷ 3 ∷ 2 ∷ []) ∷ (3 ∷ 1 ∷ 1 ∷ 1 ∷ 0x4010000000000000 ∷ 0x4000000000000000 ∷ 0x4014000000000000 ∷ []) ∷ (3 ∷ 1 ∷ 2 ∷ 0 ∷ 2 ∷ 0x4014000000000000 ∷ 0xbfc999999999999a ∷ 0x401f333333333333 ∷ []) ∷ (0 ∷ 0 ∷ 2 ∷ 0 ∷ 1 ∷ 0x4022000000000000 ∷ 0x3fe8e38e38e38e39 ∷ 0x40378e38e38e38e4 ∷ []) ∷ (0x4010000000000000 ∷ 0x3fd0000000000000 ∷ 0x400e000000000000 ∷ []) ∷ (0x4010000000000000 ∷ 0x4000000000000000 ∷ 0x4014000000000000 ∷ []) ∷ (0x3ff0000000000000 ∷ 0xc000000000000000 ∷ 0x0000000000000000 ∷ []) ∷ []) ∷ [];
     }

@@ -1,6 +1,5 @@
 -- The tree as the Rust has it: numbered nodes, numbered entries, a root, and what runs along. A leaf's list names entries, another node's names nodes.
-use Rattle.std.specs.Prelude.{ℕ, Bool, true, false, List, [], ◌∷◌, get_or, Float}
-use Rattle.std.proofs.Math.Option.{Option, none, some}
+use Rattle.std.specs.Prelude.{ℕ, Bool, true, false, List, [], ◌∷◌, get_or, Float, Option, None, Some}
 use Rattle.std.specs.Float.Ieee.{to_unsigned}
 use Rattle.feature.specs.Summaries.{blank}
 use Rattle.feature.specs.Steps.{pushed, merged}
@@ -52,7 +51,7 @@ row_count e = to_unsigned 64 e.weight
 
 -- a leaf with nothing in it
 unfoldable pub blank_node : Node
-blank_node = record { summary = blank; list = []; leaf = true; parent = none }
+blank_node = record { summary = blank; list = []; leaf = true; parent = None }
 
 unfoldable pub node_at : Tree → ℕ → Node
 node_at t i = get_or t.nodes i blank_node
@@ -95,7 +94,7 @@ unfoldable pub adding : ℕ → Node → Node
 adding k n = with_list (snoc n.list k) n
 
 unfoldable pub under : ℕ → Node → Node
-under p n = record { summary = n.summary; list = n.list; leaf = n.leaf; parent = some p }
+under p n = record { summary = n.summary; list = n.list; leaf = n.leaf; parent = Some p }
 
 -- ---- creation
 

@@ -1,13 +1,6 @@
 // The answers of the rules that code takes apart.
 #![tactic(auto)]
 
-// What the search of a leaf gives: the nearest entry, or that no distance was below infinity.
-#[derive(Clone, Copy)]
-pub enum Nearest {
-    Entry(usize),
-    Nothing,
-}
-
 // What the tree check says: that the tree passes, or the lowest condition that fails.
 #[derive(Clone, Copy)]
 pub enum Verdict {

@@ -1,7 +1,6 @@
 -- A new root over two nodes: both told of it, the node more, and its number as the root.
-use Rattle.std.specs.Prelude.{ℕ, zero, suc, ◌≤◌, ◌<◌, ◌≡◌, false, [], ◌∷◌, length}
+use Rattle.std.specs.Prelude.{ℕ, zero, suc, ◌≤◌, ◌<◌, ◌≡◌, false, [], ◌∷◌, length, None}
 use Rattle.std.proofs.Math.Path.{sym}
-use Rattle.std.proofs.Math.Option.{none}
 use Rattle.std.proofs.Common.{arith}
 use Rattle.feature.specs.declared.Summary.{Summary}
 use Rattle.head.specs.declared.Settings.{Settings}
@@ -27,6 +26,6 @@ pair_room s z = let b = z.branching_some in omega arith
 -- r: the number of the next node
 module _ (s : Settings) (i j r : ℕ) (t : Tree) (n : length t.nodes ≡ r) where
   pub crown_is : {c : Summary} {u v w : Tree} → c ≡ gathered s t false (i ∷ j ∷ []) → u ≡ on_node (under r) i t → v ≡ on_node (under r) j u
-      → w ≡ with_node (node_of c none false (i ∷ j ∷ [])) v → with_root r w ≡ crowned s i j t
+      → w ≡ with_node (node_of c None false (i ∷ j ∷ [])) v → with_root r w ≡ crowned s i j t
   unfolding crowned on_node with_node with_nodes with_root node_of
   crown_is ec eu ev ew = rw (ew, ev, eu, ec, sym n)

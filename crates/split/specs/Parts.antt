@@ -1,10 +1,9 @@
 -- The two halves of a node, written: the node refilled, a node more, and the moved nodes told of it.
 use Prim.Native.Nat.{ℕ, zero, suc, ◌+◌, ◌≤◌, ◌<◌}
-use Rattle.std.specs.Prelude.{◌≡◌, Bool, true, false, length, get_or, take, drop, set}
+use Rattle.std.specs.Prelude.{◌≡◌, Bool, true, false, length, get_or, take, drop, set, Option, None, Some}
 use Rattle.std.proofs.Math.Path.{refl, ap}
 use Rattle.std.proofs.Common.{sym, ◌∙◌, add-one, drop_of_length-le}
 use mathlib.Core.List.{List, [], ◌∷◌}
-use Rattle.std.proofs.Math.Option.{Option, some}
 use Rattle.std.proofs.Math.Seq.{drop-cons}
 use Rattle.feature.specs.declared.Summary.{Summary}
 use Rattle.head.specs.declared.Settings.{Settings}
@@ -14,9 +13,7 @@ use Rattle.rules.specs.Lists.{change_at, snoc}
 use Rattle.rules.specs.Tree.{Node, Tree, blank_node, node_at, with_nodes, summed, with_list, under}
 use Rattle.rules.specs.Slices.{no_parent}
 use Rattle.rules.specs.Split.{gathered, adopted, half, parted, split}
-use Rattle.stretch.specs.declared.block.Parent.{Parent}
-use Rattle.stretch.specs.declared.block.Parent.TheVariants as P
-use Rattle.stretch.specs.Blocks.{parent_of, ParentFits, node_of}
+use Rattle.stretch.specs.Blocks.{ParentFits, node_of}
 use Rattle.arena.specs.Trees.{ChildrenIn, on_node, with_node}
 use Rattle.halves.specs.declared.Halves.{Halves}
 use Rattle.halves.specs.Halves.{Grouped}
@@ -49,7 +46,7 @@ pub record HalvesIn (s : Settings) (n : Counters) (t : Tree) (i : ℕ) (h : Halv
   pub two_long : length h.two ≡ 17
   pub ones-few : h.ones ≤ 17
   pub twos-few : h.twos ≤ 17
-  pub parent_fits : (p : ℕ) → (node_at t i).parent ≡ some p → p < no_parent
+  pub parent_fits : (p : ℕ) → (node_at t i).parent ≡ Some p → p < no_parent
 
 -- ---- a node refilled
 
@@ -84,10 +81,9 @@ module _ (p : ℕ) (ks : List ℕ) (k : ℕ) (t : Tree) where
 -- ---- both halves written, and the split
 
 -- the parent that the code has read fits
-pub parent_fits : (q : Parent) {o : Option ℕ} → parent_of q ≡ o → ((p : ℕ) → o ≡ some p → p < no_parent) → ParentFits q
-unfolding parent_of ParentFits
-parent_fits (P.Node p) e h = h p (sym e)
-parent_fits P.NoParent e h = tt
+pub parent_fits : (q : Option ℕ) {o : Option ℕ} → q ≡ o → ((p : ℕ) → o ≡ Some p → p < no_parent) → ParentFits q
+parent_fits (Some p) e h = h p (sym e)
+parent_fits None e h = tt
 
 module _ (s : Settings) (i : ℕ) (h : Halves) (t : Tree) where
   -- by a node refilled and a node more, their summaries gathered from t

@@ -1,8 +1,7 @@
 -- What one split takes for granted, and what the way up does.
-use Rattle.std.specs.Prelude.{ℕ, suc, ◌+◌, ◌-◌, ◌≤◌, ◌<◌, ◌≡◌, Bool, true, false, not, List, Float, get_or}
+use Rattle.std.specs.Prelude.{ℕ, suc, ◌+◌, ◌-◌, ◌≤◌, ◌<◌, ◌≡◌, Bool, true, false, not, List, Float, get_or, None, Some}
 use Rattle.std.proofs.Math.Path.{refl}
 use Rattle.std.proofs.Common.{sym, ◌∙◌, subst}
-use Rattle.std.proofs.Math.Option.{none, some}
 use native.Mathlib.Omega.{arith}
 use Rattle.std.proofs.Math.Dec.{T, nleb→lt}
 use Rattle.std.proofs.Math.ListN.{length}
@@ -35,7 +34,7 @@ pub record Splits (s : Settings) (n : Counters) (t : Tree) (i : ℕ) : Type 0 wh
   pub inside : ChildrenIn n (node_at t i).leaf (node_at t i).list
   pub two : 2 ≤ length (node_at t i).list
   pub room : length (node_at t i).list + 2 ≤ block_width s
-  pub parent_fits : (p : ℕ) → (node_at t i).parent ≡ some p → p < no_parent
+  pub parent_fits : (p : ℕ) → (node_at t i).parent ≡ Some p → p < no_parent
 
 -- what follows a split of node i with parent p: the parent lists the new node
 unfoldable pub next_up : Settings → ℕ → ℕ → Tree → Tree
@@ -57,8 +56,8 @@ pub record Rising (s : Settings) (k : ℕ) (n : Counters) (i : ℕ) (t : Tree) :
 pub record Step (s : Settings) (k : ℕ) (n : Counters) (i : ℕ) (t : Tree) : Type 0 where
   pub room : n.nodes < node_cap s
   pub splits : Splits s n t i
-  pub top : (node_at t i).parent ≡ none → n.nodes + 1 < node_cap s
-  pub up : (p : ℕ) → (node_at t i).parent ≡ some p
+  pub top : (node_at t i).parent ≡ None → n.nodes + 1 < node_cap s
+  pub up : (p : ℕ) → (node_at t i).parent ≡ Some p
       → (p < n.nodes + 1) × (length (node_at (split s i t) p).list + 2 < block_width s) × Rising s (k - 1) (count_nodes (n.nodes + 1) n) p (next_up s i p t)
 
 cap_wide : (s : Settings) (b : Bool) → cap s b + 3 ≤ block_width s
@@ -122,7 +121,7 @@ module _ (s : Settings) (k : ℕ) (n : Counters) (i : ℕ) (t : Tree) (g : Risin
   len : length (split s i t).nodes ≡ suc (length t.nodes)
   len = split-length s t i l
 
-  top : (node_at t i).parent ≡ none → n.nodes + 1 < node_cap s
+  top : (node_at t i).parent ≡ None → n.nodes + 1 < node_cap s
   top o =
       let u = crowned s i (length t.nodes) (split s i t) in
       let es : length u.entries ≡ length t.entries = unfold crowned split with_nodes with_root parted in refl in
@@ -134,7 +133,7 @@ module _ (s : Settings) (k : ℕ) (n : Counters) (i : ℕ) (t : Tree) (g : Risin
       let b = g.nodes in
       omega arith
 
-  module _ (p : ℕ) (o : (node_at t i).parent ≡ some p) where
+  module _ (p : ℕ) (o : (node_at t i).parent ≡ Some p) where
     p_in : p < length (split s i t).nodes
     p_in = let a = next_in i g.looking l caps many p o in let b = extend_length p (length t.nodes) (split s i t) in omega arith
 

@@ -4,7 +4,6 @@ use Rattle.std.proofs.Math.Path.{sym}
 use Rattle.std.proofs.Math.Bool.{false}
 use Rattle.std.proofs.Common.{arith}
 use Rattle.std.proofs.Math.ListN.{length, get_or}
-use Rattle.std.proofs.Math.Seq.{get_or-take, length-take-le}
 use Rattle.binary64.specs.Operators.{f0}
 use Rattle.head.specs.declared.Settings.{Settings}
 use Rattle.head.specs.declared.Counters.{Counters}
@@ -61,13 +60,9 @@ module _ (s : Settings) (n : Counters) (t : Tree) (i : ℕ) where
 
   -- the members of an inner node's second group are nodes, with a node more too
   pub moved_in : {h : Halves} {r : Counters} → HalvesIn s n t i h → (node_at t i).leaf ≡ false → r ≡ count_nodes (n.nodes + 1) n
-      → (k : ℕ) → k < h.twos → get_or h.two k 0 < r.nodes
+      → (k : ℕ) → k < length (twos h) → get_or (twos h) k 0 < r.nodes
   unfolding ChildrenIn ChildIn count_nodes
   moved_in {h} {r} p f e k q =
-      let long = p.two_long in
-      let few = p.twos-few in
-      let all : length (twos h) ≡ h.twos = length-take-le h.twos h.two (omega arith) in
       let inside : ChildrenIn n false (twos h) = rw f at p.twos_in in
-      let here : get_or (twos h) k 0 < n.nodes = inside k (omega arith) in
-      let same : get_or (twos h) k 0 ≡ get_or h.two k 0 = get_or-take h.twos h.two k 0 q in
+      let here : get_or (twos h) k 0 < n.nodes = inside k q in
       rw e (omega arith)

@@ -1,8 +1,7 @@
 -- The way up, one turn at a time: the rule's steps, and what a split leaves for the next.
-use Rattle.std.specs.Prelude.{ℕ, zero, suc, ◌+◌, ◌-◌, ◌<◌, ◌≡◌, refl, Bool, true, false, List, leb, Float, length}
+use Rattle.std.specs.Prelude.{ℕ, zero, suc, ◌+◌, ◌<◌, ◌≡◌, refl, Bool, true, false, List, leb, Float, length, None, Some}
 use Rattle.std.proofs.Math.Path.{sym}
 use Rattle.std.proofs.Common.{ap, ◌∙◌, arith}
-use Rattle.std.proofs.Math.Option.{Option, none, some}
 use Rattle.head.specs.declared.Settings.{Settings}
 use Rattle.head.specs.declared.Counters.{Counters}
 use Rattle.head.specs.Sizes.{node_cap, block_width}
@@ -10,9 +9,6 @@ use Rattle.head.specs.Counting.{count_nodes, root_at}
 use Rattle.rules.specs.Tree.{Tree, node_at, cap, adding}
 use Rattle.rules.specs.Slices.{node_in, tree_of}
 use Rattle.rules.specs.Split.{split, crowned, fitting, split_next, split_if, split_up, split_from}
-use Rattle.stretch.specs.declared.block.Parent.{Parent}
-use Rattle.stretch.specs.declared.block.Parent.TheVariants as P
-use Rattle.stretch.specs.Blocks.{parent_of}
 use Rattle.arena.specs.Trees.{Floats, Links, AnyFloats, floats_nodes, links_nodes, floats_same, links_same, on_node, part_at}
 use Rattle.split.specs.Rising.{Rising, next_up}
 
@@ -43,28 +39,16 @@ unfolding split_up split_if
 up_fits s zero i t e = refl
 up_fits s (suc k) i t e = rw e
 
-up_root : (s : Settings) (k i : ℕ) (t : Tree) → 0 < k → fitting s t i ≡ false → (node_at t i).parent ≡ none
+up_root : (s : Settings) (k i : ℕ) (t : Tree) → 0 < k → fitting s t i ≡ false → (node_at t i).parent ≡ None
     → split_up s k i t ≡ crowned s i (length t.nodes) (split s i t)
 unfolding split_up split_if split_next
 up_root s zero i t l e o = absurd (omega arith)
 up_root s (suc k) i t l e o = rw (e, o)
 
-up_on : (s : Settings) (k i p : ℕ) (t : Tree) → 0 < k → fitting s t i ≡ false → (node_at t i).parent ≡ some p
-    → split_up s k i t ≡ split_up s (k - 1) p (next_up s i p t)
+up_on : (s : Settings) (k j i p : ℕ) (t : Tree) → k ≡ suc j → fitting s t i ≡ false → (node_at t i).parent ≡ Some p
+    → split_up s k i t ≡ split_up s j p (next_up s i p t)
 unfolding split_up split_if split_next next_up on_node
-up_on s zero i p t l e o = absurd (omega arith)
-up_on s (suc k) i p t l e o = let q : suc k - 1 ≡ k = omega arith in rw (e, o, q)
-
--- ---- the parent that the code has read
-
-module _ (q : Parent) {o : Option ℕ} (e : parent_of q ≡ o) where
-  pub parent_some : {p : ℕ} → q ≡ P.Node p → o ≡ some p
-  unfolding parent_of
-  parent_some h = sym e ∙ rw h
-
-  pub parent_none : q ≡ P.NoParent → o ≡ none
-  unfolding parent_of
-  parent_none h = sym e ∙ rw h
+up_on s k j i p t l e o = rw l (rw (e, o))
 
 -- ---- after a split: the counters r, of a node more
 
@@ -83,8 +67,8 @@ module _ (s : Settings) (n r : Counters) (e : r ≡ count_nodes (n.nodes + 1) n)
   unfolding count_nodes
   room_more h = rw e h
 
-  pub rising_more : {k p : ℕ} {u v : Tree} → u ≡ v → Rising s k (count_nodes (n.nodes + 1) n) p v → Rising s k r p u
-  rising_more q g = rw (e, q) g
+  pub rising_more : {j k p : ℕ} {u v : Tree} → j ≡ k → u ≡ v → Rising s k (count_nodes (n.nodes + 1) n) p v → Rising s j r p u
+  rising_more l q g = rw (l, e, q) g
 
 -- and with the root's number set
 module _ (s : Settings) (n d : Counters) (e : d ≡ root_at n.nodes (count_nodes (n.nodes + 1) n)) where
@@ -104,7 +88,7 @@ module _ (s : Settings) (n d : Counters) (e : d ≡ root_at n.nodes (count_nodes
 module _ (s : Settings) (k i : ℕ) (t : Tree) {j : ℕ} {u v : Tree} (n : length t.nodes ≡ j) (l : 0 < k) (f : fitting s t i ≡ false)
     (a : u ≡ split s i t) where
   -- a new root ends it
-  pub crown_up : (node_at t i).parent ≡ none → v ≡ crowned s i j u → v ≡ split_up s k i t
+  pub crown_up : (node_at t i).parent ≡ None → v ≡ crowned s i j u → v ≡ split_up s k i t
   crown_up o b = b ∙ rw (a, sym n) (sym (up_root s k i t l f o))
 
   -- else the parent lists the new node, and is looked at
@@ -112,8 +96,8 @@ module _ (s : Settings) (k i : ℕ) (t : Tree) {j : ℕ} {u v : Tree} (n : lengt
   unfolding next_up
   next-is p b = b ∙ rw (a, sym n)
 
-  pub next_up_lem : (p : ℕ) → (node_at t i).parent ≡ some p → v ≡ on_node (adding j) p u → split_up s (k - 1) p v ≡ split_up s k i t
-  next_up_lem p o b = rw (next-is p b) (sym (up_on s k i p t l f o))
+  pub next_up_lem : (p h : ℕ) → k ≡ suc h → (node_at t i).parent ≡ Some p → v ≡ on_node (adding j) p u → split_up s h p v ≡ split_up s k i t
+  next_up_lem p h q o b = rw (next-is p b) (sym (up_on s k h i p t q f o))
 
 -- a spare place of node p's block, whatever the floats
 pub spare_any : (s : Settings) (r : Counters) (gs : List Float) (ls : List ℕ) (p : ℕ) {u : Tree} → p < r.nodes → tree_of s r gs ls ≡ u

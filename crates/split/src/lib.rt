@@ -18,7 +18,6 @@ use crate::groups::groups;
 use crate::part::{adopt, part};
 use arena::{links, nodes};
 use head::{Counters, Settings};
-use stretch::block::Parent;
 
 // Node i becomes two: it keeps the first half of its list, the second is a new node under the same parent.
 pub fn split(s: Settings, n: Counters, floats: &mut [f64], links: &mut [u32], i: usize) -> Counters
@@ -34,7 +33,7 @@ pub fn split(s: Settings, n: Counters, floats: &mut [f64], links: &mut [u32], i:
         return r;
     }
     let two = h.two;
-    adopt(s, r, links, &two, h.twos, n.nodes);
+    adopt(s, r, links, &two[..h.twos], n.nodes);
     r
 }
 
@@ -69,7 +68,7 @@ pub fn crown(
     let c = gather(s, n, floats, false, &pair);
     links::set_parent(s, n, links, i, top);
     links::set_parent(s, n, links, j, top);
-    let r = nodes::append(s, n, floats, links, c, Parent::NoParent, false, &pair, 2);
+    let r = nodes::append(s, n, floats, links, c, None, false, &pair);
     r.with_root(top)
 }
 
@@ -88,20 +87,18 @@ pub fn split_up(
 {
     let mut m = n;
     let mut at = i;
-    let mut left = n.nodes;
-    while left > 0 {
+    for _ in 0..n.nodes {
         if fits(s, m, links, at) {
             return m;
         }
         let j = m.nodes;
         let above = links::parent(s, m, links, at);
         m = split(s, m, floats, links, at);
-        let Parent::Node(p) = above else {
+        let Some(p) = above else {
             return crown(s, m, floats, links, at, j);
         };
         links::append(s, m, links, p, j);
         at = p;
-        left -= 1;
     }
     m
 }

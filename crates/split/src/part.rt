@@ -1,6 +1,5 @@
 // The two halves of a node, written.
-ghost use Rattle.std.specs.Prelude.{◌≡◌, length, get_or, take};
-ghost use Prim.Native.Nat.{◌+◌, ◌<◌, ◌≤◌};
+ghost use Rattle.std.specs.Prelude.{◌≡◌, ℕ, ◌+◌, ◌<◌, ◌≤◌, length, get_or};
 ghost use Rattle.feature.specs.Shape.{Shaped};
 ghost use Rattle.head.specs.Sizes.{node_cap, block_width};
 ghost use Rattle.head.specs.Counting.{count_nodes};
@@ -14,7 +13,7 @@ use feature::Summary;
 use halves::Halves;
 use head::{Counters, Settings};
 
-// The summary of node i becomes c, and its list the first len of a list.
+// The summary of node i becomes c, and its list another.
 fn refill(
     s: Settings,
     n: Counters,
@@ -23,15 +22,14 @@ fn refill(
     i: usize,
     c: Summary,
     list: &[u32],
-    len: usize,
 )
     requires floats { Floats s n (length floats.old) × Links s n (length links.old) × (i < n.nodes) × Shaped s.feature s.dim c }
-    requires len_bound { (len + 2 ≤ block_width s) × (len ≤ length list.now) }
+    requires len_bound { length list.now + 2 ≤ block_width s }
     ensures { tree_of s n floats.new links.new
-        ≡ on_node (refilled c (take len list.now)) i (tree_of s n floats.old links.old) }
+        ≡ on_node (refilled c list.now) i (tree_of s n floats.old links.old) }
 {
     nodes::put(s, n, floats, i, c);
-    links::set_list(s, n, links, i, list, len);
+    links::set_list(s, n, links, i, list);
 }
 
 // Node i with the first half, and a new node with the second, under the same parent.
@@ -50,25 +48,21 @@ pub fn part(
 {
     let leaf = links::is_leaf(s, n, links, i);
     let parent = links::parent(s, n, links, i);
-    let one = h.one;
-    let two = h.two;
-    let ones = h.ones;
-    let twos = h.twos;
-    let a = gather(s, n, floats, leaf, &one[..ones]);
-    let b = gather(s, n, floats, leaf, &two[..twos]);
-    refill(s, n, floats, links, i, a, &one, ones);
-    nodes::append(s, n, floats, links, b, parent, leaf, &two, twos)
+    let one = &h.one[..h.ones];
+    let two = &h.two[..h.twos];
+    let a = gather(s, n, floats, leaf, one);
+    let b = gather(s, n, floats, leaf, two);
+    refill(s, n, floats, links, i, a, one);
+    nodes::append(s, n, floats, links, b, parent, leaf, two)
 }
 
-// The nodes that the first len of a list name are told that p is their parent.
-pub fn adopt(s: Settings, n: Counters, links: &mut [u32], list: &[u32], len: usize, p: usize)
-    requires links { Links s n (length links.old) × (len ≤ length list.now) × (p < no_parent) }
-    requires k_bound { (k : Prim.Native.Nat.ℕ) → k < len → get_or list.now k 0 < n.nodes }
-    ensures { LinksTo s n links.old n links.new (adopted_by p (take len list.now)) }
+// The nodes that a list names are told that p is their parent.
+pub fn adopt(s: Settings, n: Counters, links: &mut [u32], list: &[u32], p: usize)
+    requires links { Links s n (length links.old) × (p < no_parent) }
+    requires k_bound { (k : ℕ) → k < length list.now → get_or list.now k 0 < n.nodes }
+    ensures { LinksTo s n links.old n links.new (adopted_by p list.now) }
 {
-    let mut k = 0;
-    while k < len {
-        links::set_parent(s, n, links, list[k] as usize, p);
-        k += 1;
+    for c in list {
+        links::set_parent(s, n, links, *c as usize, p);
     }
 }

@@ -1,8 +1,8 @@
 -- A node's links in its block: what is read of it, and what a word or a list written to it makes of the node.
-use Rattle.std.specs.Prelude.{ℕ, suc, ◌+◌, ◌-◌, ◌/◌, ◌%◌, ◌≤◌, ◌<◌, min, ◌≡◌, refl, Bool, List, [], ◌∷◌, ◌++◌, length, get_or, set, drop, Float}
-use Rattle.std.proofs.Common.{sym, ap₂, ◌∙◌, arith, eq-eqb, ne_eqb, length-take, length-drop, take_at, take-suc-set, length-take-le}
+use Rattle.std.specs.Prelude.{ℕ, suc, ◌+◌, ◌-◌, ◌/◌, ◌%◌, ◌≤◌, ◌<◌, min, ◌≡◌, refl, Bool, List, [], ◌∷◌, ◌++◌, length, get_or, set, drop, Float, Option, None, Some}
+use Rattle.std.proofs.Common.{sym, ap₂, ◌∙◌, arith, eq-eqb, ne_eqb, length-take, length-drop, take_at, take-suc-set}
 use Rattle.std.proofs.Math.Path.{ap}
-use Rattle.std.proofs.Math.Option.{Option, none, some}
+use Rattle.std.proofs.lemmas.Option.{none-some}
 use Rattle.std.proofs.Math.ListN.{take}
 use Rattle.std.proofs.Math.Seq.{get_or-take, get_or-drop}
 use Rattle.feature.specs.declared.Summary.{Summary}
@@ -13,9 +13,7 @@ use Rattle.rules.specs.Lists.{snoc}
 use Rattle.rules.specs.Tree.{Node, adding, with_list, under}
 use Rattle.rules.specs.Slices.{summary_in, no_parent, parent_in, parent_out, leaf_in, kind_out, length_in, node_in}
 use Rattle.rules.specs.Stored.{parent_back, leaf_back, length_back}
-use Rattle.stretch.specs.Stretches.{put_stretch, put_rest}
-use Rattle.stretch.specs.declared.block.Parent.{Parent}
-use Rattle.stretch.specs.declared.block.Parent.TheVariants as P
+use Rattle.stretch.specs.Stretches.{put_stretch}
 
 -- as many links as a node takes
 pub record Block (s : Settings) (b : List ℕ) : Type 0 where
@@ -28,15 +26,10 @@ pub block : (s : Settings) (b : List ℕ) → Sized s → length b ≡ block_wid
 unfolding block_width
 block s b z e = let n = z.branching_few in let l = z.leaf-few in record { sized = z; long = e; some = omega arith; few = omega arith }
 
--- the code's parent as the rules have it
-unfoldable pub parent_of : Parent → Option ℕ
-parent_of (P.Node i) = some i
-parent_of P.NoParent = none
-
 -- a parent's number is not the reserved one, and fits its word
-unfoldable pub ParentFits : Parent → Type 0
-ParentFits (P.Node i) = i < no_parent
-ParentFits P.NoParent = Unit
+abbrev pub ParentFits : Option ℕ → Type 0
+ParentFits (Some i) = i < no_parent
+ParentFits None = Unit
 
 -- a node of its parts
 unfoldable pub node_of : Summary → Option ℕ → Bool → List ℕ → Node
@@ -55,30 +48,15 @@ pub linked-is : (s : Settings) (p : List Float) (b : List ℕ) (parent : Option 
 unfolding linked relinked node_in
 linked-is s p b parent leaf list = refl
 
--- the parent that a match has told
-pub no_parent_lem : (p : Parent) → p ≡ P.NoParent → parent_of p ≡ none
-unfolding parent_of
-no_parent_lem p e = rw e
+pub parent_fits : (q : Option ℕ) → ParentFits q → q ≡ Some no_parent → ⊥
+parent_fits (Some i) h e = let z : i ≡ no_parent = cc in omega arith
+parent_fits None h e = none-some no_parent e
 
-pub a_parent : (p : Parent) (i : ℕ) → p ≡ P.Node i → parent_of p ≡ some i
-unfolding parent_of
-a_parent p i e = rw e
-
-pub parent_fits : (q : Parent) → ParentFits q → parent_of q ≡ some no_parent → ⊥
-unfolding parent_of ParentFits
-parent_fits (P.Node i) h e = let z : i ≡ no_parent = cc in omega arith
-parent_fits P.NoParent h e = let z : ◌≡◌ {A = ℕ} 0 1 = cc in omega arith
-
-pub number_fits : (q : Parent) (i : ℕ) → q ≡ P.Node i → ParentFits q → i < no_parent
-unfolding ParentFits
-number_fits (P.Node j) i e h = let z : i ≡ j = cc in rw z h
-number_fits P.NoParent i e h = let z : ◌≡◌ {A = ℕ} 0 1 = cc in omega arith
-
-pub parent_none : (w : ℕ) → w ≡ no_parent → none ≡ parent_in w
+pub parent_none : (w : ℕ) → w ≡ no_parent → None ≡ parent_in w
 unfolding parent_in
 parent_none w e = rw (eq-eqb w no_parent e)
 
-pub parent_some : (w : ℕ) → (w ≡ no_parent → ⊥) → some w ≡ parent_in w
+pub parent_some : (w : ℕ) → (w ≡ no_parent → ⊥) → Some w ≡ parent_in w
 unfolding parent_in
 parent_some w d = rw (ne_eqb w no_parent d)
 
@@ -126,40 +104,32 @@ unfolding node_in linked node_of
 kind_made s z p x leaf l rest h =
     rw (length_back s z leaf (length l) h, leaf_back s z leaf (length l), take_at l rest (length l) refl)
 
--- the list l and what stood behind it, in the places of a block
-pub listed-is : (s : Settings) (z : Sized s) (p : List Float) (x y n : ℕ) (leaf : Bool) (r l list : List ℕ) → n ≤ block_width s - 2 → n ≤ length list
-    → length (x ∷ y ∷ r) ≡ block_width s
-    → l ≡ take n list ++ drop n (take (length (x ∷ y ∷ r) - 2) r)
-    → node_in s p (put_stretch (x ∷ kind_out leaf n ∷ r) 2 (length (x ∷ y ∷ r) - 2) l) ≡ linked s p (parent_in x) leaf (take n list)
-listed-is s z p x y n leaf r l list h k e el =
-    let long : length (take n list) ≡ n = length-take-le n list k in
-    let rest = drop n (take (length (x ∷ y ∷ r) - 2) r) in
-    ap (node_in s p) (put_rest (x ∷ kind_out leaf n ∷ []) r l 2 (length (x ∷ y ∷ r) - 2) refl (omega arith) ∙ ap₂ (λ m q. x ∷ kind_out leaf m ∷ q) (sym long) el)
-    ∙ kind_made s z p x leaf (take n list) rest (rw long h)
+-- a list behind the two words of a block, and behind it what stood there
+listed-is : (s : Settings) (z : Sized s) (p : List Float) (x n : ℕ) (leaf : Bool) (r list : List ℕ) → length list + 2 ≤ block_width s
+    → node_in s p (put_stretch (x ∷ kind_out leaf (length list) ∷ r) 2 n list) ≡ linked s p (parent_in x) leaf list
+unfolding put_stretch
+listed-is s z p x n leaf r list h = kind_made s z p x leaf list (drop n r) (omega arith)
 
-pub link_is : (s : Settings) (p : List Float) (par : Parent) (leaf : Bool) (n w k : ℕ) (b l list : List ℕ) → Block s b → ParentFits par
-    → n + 2 ≤ block_width s → n ≤ length list
-    → w ≡ parent_out (parent_of par) → k ≡ kind_out leaf n
-    → l ≡ take n list ++ drop n (take (length (set (set b 0 w) 1 k) - 2) (drop 2 (set (set b 0 w) 1 k)))
-    → node_in s p (put_stretch (set (set b 0 w) 1 k) 2 (length (set (set b 0 w) 1 k) - 2) l) ≡ linked s p (parent_of par) leaf (take n list)
-link_is s p par leaf n w k (x ∷ y ∷ r) l list b f h g ew ek el =
-    ap (λ m. node_in s p (put_stretch (w ∷ m ∷ r) 2 (length (w ∷ m ∷ r) - 2) l)) ek
-    ∙ listed-is s b.sized p w y n leaf r l list (omega arith) g b.long el
-    ∙ ap (λ q. linked s p q leaf (take n list)) (ap parent_in ew ∙ parent_back s b.sized (parent_of par) (parent_fits par f))
-link_is s p par leaf n w k [] l list b f h g ew ek el = absurd (omega (arith, b.some))
-link_is s p par leaf n w k (x ∷ []) l list b f h g ew ek el = absurd (omega (arith, b.some))
+pub link_is : (s : Settings) (p : List Float) (par : Option ℕ) (leaf : Bool) (n w k : ℕ) (b l list : List ℕ) → Block s b → ParentFits par
+    → length list + 2 ≤ block_width s → w ≡ parent_out par → k ≡ kind_out leaf (length list) → l ≡ list
+    → node_in s p (put_stretch (set (set b 0 w) 1 k) 2 n l) ≡ linked s p par leaf list
+link_is s p par leaf n w k (x ∷ y ∷ r) l list b f h ew ek el =
+    ap₂ (λ m q. node_in s p (put_stretch (w ∷ m ∷ r) 2 n q)) ek el
+    ∙ listed-is s b.sized p w n leaf r list h
+    ∙ ap (λ q. linked s p q leaf list) (ap parent_in ew ∙ parent_back s b.sized par (parent_fits par f))
+link_is s p par leaf n w k [] l list b f h ew ek el = absurd (omega (arith, b.some))
+link_is s p par leaf n w k (x ∷ []) l list b f h ew ek el = absurd (omega (arith, b.some))
 
-pub list_is : (s : Settings) (p : List Float) (leaf : Bool) (n k : ℕ) (b l list : List ℕ) → Block s b → n + 2 ≤ block_width s → n ≤ length list
-    → leaf ≡ (node_in s p b).leaf → k ≡ kind_out leaf n
-    → l ≡ take n list ++ drop n (take (length (set b 1 k) - 2) (drop 2 (set b 1 k)))
-    → node_in s p (put_stretch (set b 1 k) 2 (length (set b 1 k) - 2) l) ≡ with_list (take n list) (node_in s p b)
+pub list_is : (s : Settings) (p : List Float) (leaf : Bool) (n k : ℕ) (b l list : List ℕ) → Block s b → length list + 2 ≤ block_width s
+    → leaf ≡ (node_in s p b).leaf → k ≡ kind_out leaf (length list) → l ≡ list
+    → node_in s p (put_stretch (set b 1 k) 2 n l) ≡ with_list list (node_in s p b)
 unfolding linked node_of with_list node_in
-list_is s p leaf n k (x ∷ y ∷ r) l list b h g ef ek el =
-    ap (λ m. node_in s p (put_stretch (x ∷ m ∷ r) 2 (length (x ∷ m ∷ r) - 2) l)) ek
-    ∙ listed-is s b.sized p x y n leaf r l list (omega arith) g b.long el
-    ∙ ap (λ q. linked s p (parent_in x) q (take n list)) ef
-list_is s p leaf n k [] l list b h g ef ek el = absurd (omega (arith, b.some))
-list_is s p leaf n k (x ∷ []) l list b h g ef ek el = absurd (omega (arith, b.some))
+list_is s p leaf n k (x ∷ y ∷ r) l list b h ef ek el =
+    ap₂ (λ m q. node_in s p (put_stretch (x ∷ m ∷ r) 2 n q)) ek el
+    ∙ listed-is s b.sized p x n leaf r list h
+    ∙ ap (λ q. linked s p (parent_in x) q list) ef
+list_is s p leaf n k [] l list b h ef ek el = absurd (omega (arith, b.some))
+list_is s p leaf n k (x ∷ []) l list b h ef ek el = absurd (omega (arith, b.some))
 
 pub under-is : (s : Settings) (p : List Float) (i : ℕ) (b : List ℕ) → Block s b → i < no_parent → node_in s p (set b 0 i) ≡ under i (node_in s p b)
 unfolding node_in under

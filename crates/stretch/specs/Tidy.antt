@@ -1,9 +1,8 @@
 -- A slot and a block tidied: without what the feature does not keep, without what stands past the list.
-use Rattle.std.specs.Prelude.{ℕ, suc, ◌+◌, ◌-◌, ◌≤◌, ◌<◌, ◌≡◌, Bool, true, cond, List, [], ◌∷◌, ◌++◌, eqb, length, set, take, drop, replicate, Float}
+use Rattle.std.specs.Prelude.{ℕ, suc, ◌+◌, ◌-◌, ◌≤◌, ◌<◌, ◌≡◌, Bool, true, cond, List, [], ◌∷◌, ◌++◌, eqb, length, set, take, drop, replicate, Float, None, Some}
 use Rattle.std.proofs.Math.Path.{refl, sym}
 use Rattle.std.proofs.Common.{ap, ap₂, ◌∙◌, append_assoc, arith, eqb-true, length-take, length-drop, take-append-drop, get_or-take, length-take-le, take-add, ext_get_or}
 use Rattle.std.proofs.Math.Bool.{false}
-use Rattle.std.proofs.Math.Option.{none, some}
 use Rattle.std.specs.Float.{nan}
 use Rattle.binary64.specs.Operators.{f0}
 use Rattle.kernels.specs.Channels.{at, up_to}
@@ -68,7 +67,7 @@ parent_forth : (w : ℕ) → parent_out (parent_in w) ≡ w
 unfolding parent_out parent_in
 parent_forth w = go (eqb w no_parent) refl
   where
-    go : (b : Bool) → eqb w no_parent ≡ b → parent_out (cond b none (some w)) ≡ w
+    go : (b : Bool) → eqb w no_parent ≡ b → parent_out (cond b None (Some w)) ≡ w
     go true e = unfold parent_out in sym (eqb-true w no_parent e)
     go false e = unfold parent_out in refl
 

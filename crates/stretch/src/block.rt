@@ -3,16 +3,9 @@ ghost use Rattle.std.specs.Prelude.{◌≡◌, List, ◌++◌, ◌+◌, ◌<◌,
 ghost use Rattle.head.specs.Sizes.{block_width};
 ghost use Rattle.rules.specs.Tree.{adding, with_list, under};
 ghost use Rattle.rules.specs.Slices.{parent_out, kind_out, node_in, block_out, no_parent};
-ghost use Rattle.stretch.specs.Blocks.{Block, parent_of, ParentFits, linked};
+ghost use Rattle.stretch.specs.Blocks.{Block, ParentFits, linked};
 
 use head::Settings;
-
-// The number of a node that another hangs under, or none.
-#[derive(Clone, Copy)]
-pub enum Parent {
-    Node(usize),
-    NoParent,
-}
 
 // The parent word that no node's number is.
 const NO_PARENT: u32 = 4_294_967_295;
@@ -28,26 +21,14 @@ pub fn zero(b: &mut [u32])
     }
 }
 
-// The first n of a list go to the front of b.
-fn copy(n: usize, from: &[u32], b: &mut [u32])
-    requires { (n ≤ length from.now) × (n ≤ length b.old) }
-    ensures { b.new ≡ take n from.now ++ drop n b.old }
-{
-    let mut i = 0;
-    while i < n {
-        b[i] = from[i];
-        i += 1;
-    }
-}
-
 // The word of a parent.
-fn parent_word(p: Parent) -> u32
+fn parent_word(p: Option<usize>) -> u32
     requires { ParentFits p }
-    ensures { result ≡ parent_out (parent_of p) }
+    ensures { result ≡ parent_out p }
 {
     match p {
-        Parent::Node(i) => i as u32,
-        Parent::NoParent => NO_PARENT,
+        Some(i) => i as u32,
+        None => NO_PARENT,
     }
 }
 
@@ -60,16 +41,16 @@ fn kind_word(leaf: bool, len: usize) -> u32
     if leaf { twice + 1 } else { twice }
 }
 
-// The parent of a block's node.
-pub fn parent_of(s: Settings, b: &[u32]) -> Parent
+// The parent of a block's node, if it has one.
+pub fn parent_of(s: Settings, b: &[u32]) -> Option<usize>
     requires { Block s b.now }
-    ensures { (p : List Float) → parent_of result ≡ (node_in s p b.now).parent }
+    ensures { (p : List Float) → result ≡ (node_in s p b.now).parent }
 {
     let word = b[0];
     if word == NO_PARENT {
-        Parent::NoParent
+        None
     } else {
-        Parent::Node(word as usize)
+        Some(word as usize)
     }
 }
 
@@ -108,24 +89,26 @@ pub fn list_at(s: Settings, b: &[u32], i: usize) -> usize
     b[2 + i] as usize
 }
 
-// The block of a node with a parent, a kind, and the first len of a list.
-pub fn link(s: Settings, parent: Parent, leaf: bool, list: &[u32], len: usize, b: &mut [u32])
-    requires { Block s b.old × ParentFits parent × (len + 2 ≤ block_width s) × (len ≤ length list.now) }
-    ensures { (p : List Float) → node_in s p b.new ≡ linked s p (parent_of parent) leaf (take len list.now) }
+// The block of a node with a parent, a kind and a list.
+pub fn link(s: Settings, parent: Option<usize>, leaf: bool, list: &[u32], b: &mut [u32])
+    requires { Block s b.old × ParentFits parent × (length list.now + 2 ≤ block_width s) }
+    ensures { (p : List Float) → node_in s p b.new ≡ linked s p parent leaf list.now }
 {
+    let len = list.len();
     b[0] = parent_word(parent);
     b[1] = kind_word(leaf, len);
-    copy(len, list, &mut b[2..]);
+    b[2..2 + len].copy_from_slice(list);
 }
 
-// The list of a block's node becomes the first len of a list.
-pub fn set_list(s: Settings, list: &[u32], len: usize, b: &mut [u32])
-    requires { Block s b.old × (len + 2 ≤ block_width s) × (len ≤ length list.now) }
-    ensures { (p : List Float) → node_in s p b.new ≡ with_list (take len list.now) (node_in s p b.old) }
+// A list becomes that of a block's node.
+pub fn set_list(s: Settings, list: &[u32], b: &mut [u32])
+    requires { Block s b.old × (length list.now + 2 ≤ block_width s) }
+    ensures { (p : List Float) → node_in s p b.new ≡ with_list list.now (node_in s p b.old) }
 {
     let leaf = is_leaf(s, b);
+    let len = list.len();
     b[1] = kind_word(leaf, len);
-    copy(len, list, &mut b[2..]);
+    b[2..2 + len].copy_from_slice(list);
 }
 
 // The parent of a block's node becomes node i.

@@ -1,7 +1,6 @@
 -- Words letter by letter.
-use Rattle.std.specs.Prelude.{ℕ, suc, ◌+◌, ◌<◌, Bool, true, false, ◌&&◌, List, [], ◌∷◌, ◌≡◌, eqb, length, get_or, drop}
+use Rattle.std.specs.Prelude.{ℕ, suc, ◌+◌, ◌<◌, Bool, true, false, ◌&&◌, List, [], ◌∷◌, ◌≡◌, eqb, length, get_or, drop, Option, None, Some}
 use Rattle.std.proofs.Math.Bool.{cond, and-false}
-use Rattle.std.proofs.Math.Option.{Option, none, some}
 use Rattle.std.proofs.Math.Path.{refl, ap}
 use Rattle.std.proofs.Common.{◌∙◌, eq-eqb, ne_eqb}
 use Prim.Native.String.{String}
@@ -52,15 +51,15 @@ module _ (a b : List ℕ) (i : ℕ) where
 -- ---- the place of a word
 
 module _ (n : ℕ) (w : String) (ws : List String) (l : List ℕ) where
-  pub word_here : same l (bytes w) ≡ true → word_at n (w ∷ ws) l ≡ some n
+  pub word_here : same l (bytes w) ≡ true → word_at n (w ∷ ws) l ≡ Some n
   unfolding word_at
-  word_here e = ap (λ t. cond t (some n) (word_at (suc n) ws l)) e
+  word_here e = ap (λ t. cond t (Some n) (word_at (suc n) ws l)) e
 
   pub word_later : same l (bytes w) ≡ false → word_at n (w ∷ ws) l ≡ word_at (suc n) ws l
   unfolding word_at
-  word_later e = ap (λ t. cond t (some n) (word_at (suc n) ws l)) e
+  word_later e = ap (λ t. cond t (Some n) (word_at (suc n) ws l)) e
 
-pub word_none : (n : ℕ) (l : List ℕ) → word_at n [] l ≡ none
+pub word_none : (n : ℕ) (l : List ℕ) → word_at n [] l ≡ None
 unfolding word_at
 word_none n l = refl
 

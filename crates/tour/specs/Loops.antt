@@ -1,10 +1,9 @@
 -- What the code of the walk knows of the node that it is at.
 use Prim.Native.Nat.{ℕ, zero, suc, ◌+◌, ◌-◌, ◌*◌, ◌≤◌, ◌<◌}
-use Rattle.std.specs.Prelude.{◌≡◌, ◌≢◌, true, false, cond, ltb, Float, get_or, drop}
+use Rattle.std.specs.Prelude.{◌≡◌, ◌≢◌, true, false, cond, ltb, Float, get_or, drop, None, Some}
 use Rattle.std.proofs.Math.Path.{sym, ap, subst}
 use Rattle.std.proofs.Common.{◌∙◌, eq-eqb, ne_eqb, drop_of_length-le}
 use mathlib.Core.List.{List, []}
-use Rattle.std.proofs.Math.Option.{none, some}
 use Rattle.std.proofs.Math.Numerals.{add-one}
 use native.Mathlib.Omega.{arith}
 use Rattle.std.proofs.Math.Dec.{T, ltb→lt}
@@ -31,17 +30,17 @@ use Rattle.tour.specs.declared.depths.Depths.{Depths}
 
 -- its parent, where it has one, is a node
 abbrev pub ParentIn : Tree → ℕ → Type 0
-ParentIn t i = (p : ℕ) → (node_at t i).parent ≡ some p → p < length t.nodes
+ParentIn t i = (p : ℕ) → (node_at t i).parent ≡ Some p → p < length t.nodes
 
 -- d steps up from it, along nodes, stands one without a parent
 abbrev pub Above : Tree → ℕ → ℕ → Type 0
-Above t i zero = (node_at t i).parent ≡ none
-Above t i (suc d) = (p : ℕ) × ((node_at t i).parent ≡ some p) × (p < length t.nodes) × Above t p d
+Above t i zero = (node_at t i).parent ≡ None
+Above t i (suc d) = (p : ℕ) × ((node_at t i).parent ≡ Some p) × (p < length t.nodes) × Above t p d
 
-none-some : {a : ℕ} → none ≡ some a → ⊥
+none-some : {a : ℕ} → None ≡ Some a → ⊥
 none-some e = let z : ◌≡◌ {A = ℕ} 0 1 = cc in omega arith
 
-some_same : {a b : ℕ} → some a ≡ some b → a ≡ b
+some_same : {a b : ℕ} → Some a ≡ Some b → a ≡ b
 some_same e = cc
 
 module _ (t : Tree) where
@@ -50,14 +49,14 @@ module _ (t : Tree) where
   above_in i (suc d) (q, f, l, a) p e = subst (λ x. x < length t.nodes) (some_same (sym f ∙ e)) l
 
   -- one step up
-  pub above_up : (i d p : ℕ) → Above t i d → (node_at t i).parent ≡ some p → (0 < d) × Above t p (d - 1)
+  pub above_up : (i d p : ℕ) → Above t i d → (node_at t i).parent ≡ Some p → (0 < d) × Above t p (d - 1)
   above_up i zero p a e = absurd (none-some (sym a ∙ e))
   above_up i (suc d) p (q, f, l, a) e =
       let w : d ≡ suc d - 1 = omega arith in
       (omega arith, subst (λ x. Above t p x) w (subst (λ x. Above t x d) (some_same (sym f ∙ e)) a))
 
   -- one step down
-  pub above_down : (i d c : ℕ) → i < length t.nodes → Above t i d → (node_at t c).parent ≡ some i → Above t c (d + 1)
+  pub above_down : (i d c : ℕ) → i < length t.nodes → Above t i d → (node_at t c).parent ≡ Some i → Above t c (d + 1)
   above_down i d c l a e = let w : suc d ≡ d + 1 = omega arith in subst (Above t c) w (i, e, l, a)
 
 -- ---- the place after c, place by place

@@ -1,10 +1,9 @@
 -- One step of the walk: which it is, and what it tells.
-use Rattle.std.specs.Prelude.{ℕ, zero, suc, ◌+◌, ◌≤◌, ◌<◌, ◌⊎◌, ◌≢◌, Bool, eqb, get_or}
+use Rattle.std.specs.Prelude.{ℕ, zero, suc, ◌+◌, ◌≤◌, ◌<◌, ◌⊎◌, ◌≢◌, Bool, eqb, get_or, Option, None, Some}
 use Rattle.std.proofs.Math.Path.{◌≡◌, refl, ap, subst}
 use Rattle.std.proofs.Common.{sym, ◌∙◌, inl, inr}
 use Rattle.std.proofs.Math.Bool.{true, false, cond}
 use mathlib.Core.List.{List, [], ◌∷◌}
-use Rattle.std.proofs.Math.Option.{Option, none, some}
 use native.Mathlib.Omega.{arith}
 use borrow.Author.Tests.{eq-eqb, ne_eqb, lt-ltb, le-ltb}
 use Rattle.std.proofs.Math.Dec.{T}
@@ -83,20 +82,20 @@ module _ (t : Tree) where
 
   up_not_down : (i c : ℕ) (o : Option ℕ) → up_of t i o ≡ Down c → ⊥
   unfolding up_of
-  up_not_down i c none e = down_end (sym e)
-  up_not_down i c (some p) e = down_up (sym e)
+  up_not_down i c None e = down_end (sym e)
+  up_not_down i c (Some p) e = down_up (sym e)
 
   -- down to a node of the list that names its node
-  pub step_down : (i k c : ℕ) → step_of t i k ≡ Down c → (k < length (kids t i)) × (get_or (kids t i) k 0 ≡ c) × ((node_at t c).parent ≡ some i)
+  pub step_down : (i k c : ℕ) → step_of t i k ≡ Down c → (k < length (kids t i)) × (get_or (kids t i) k 0 ≡ c) × ((node_at t c).parent ≡ Some i)
   unfolding down_of
   step_down i k c e = go (lt? k (length (kids t i)))
     where
-      by : (x : ℕ) (b : Bool) → names i (node_at t x).parent ≡ b → cond b (Down x) Astray ≡ Down c → (x ≡ c) × ((node_at t c).parent ≡ some i)
+      by : (x : ℕ) (b : Bool) → names i (node_at t x).parent ≡ b → cond b (Down x) Astray ≡ Down c → (x ≡ c) × ((node_at t c).parent ≡ Some i)
       by x true n f =
-          let w = down_same f in (w, subst (λ y. (node_at t y).parent ≡ some i) w (names-is i (node_at t x).parent (subst T (sym n) tt)))
+          let w = down_same f in (w, subst (λ y. (node_at t y).parent ≡ Some i) w (names-is i (node_at t x).parent (subst T (sym n) tt)))
       by x false n f = absurd (astray_down f)
 
-      go : (k < length (kids t i)) ⊎ (length (kids t i) ≤ k) → (k < length (kids t i)) × (get_or (kids t i) k 0 ≡ c) × ((node_at t c).parent ≡ some i)
+      go : (k < length (kids t i)) ⊎ (length (kids t i) ≤ k) → (k < length (kids t i)) × (get_or (kids t i) k 0 ≡ c) × ((node_at t c).parent ≡ Some i)
       go (inl q) =
           let x = get_or (kids t i) k 0 in
           let f : down_of t i x ≡ Down c = sym (step_in i k q) ∙ e in
@@ -128,28 +127,28 @@ module _ (t : Tree) where
   up_done i k p j h e = down_not_up i (get_or (kids t i) k 0) p j (sym (step_in i k h) ∙ e)
 
   -- up to the parent
-  pub step_up : (i k p j : ℕ) → step_of t i k ≡ Up p j → (node_at t i).parent ≡ some p
+  pub step_up : (i k p j : ℕ) → step_of t i k ≡ Up p j → (node_at t i).parent ≡ Some p
   unfolding up_of
   step_up i k p j e = go (lt? k (length (kids t i)))
     where
-      by : (o : Option ℕ) → (node_at t i).parent ≡ o → up_of t i o ≡ Up p j → (node_at t i).parent ≡ some p
-      by none n f = absurd (up_end (sym f))
-      by (some q) n f = n ∙ ap some (up_same f).0
+      by : (o : Option ℕ) → (node_at t i).parent ≡ o → up_of t i o ≡ Up p j → (node_at t i).parent ≡ Some p
+      by None n f = absurd (up_end (sym f))
+      by (Some q) n f = n ∙ ap Some (up_same f).0
 
-      go : (k < length (kids t i)) ⊎ (length (kids t i) ≤ k) → (node_at t i).parent ≡ some p
+      go : (k < length (kids t i)) ⊎ (length (kids t i) ≤ k) → (node_at t i).parent ≡ Some p
       go (inl q) = absurd (up_done i k p j q e)
       go (inr q) = by (node_at t i).parent refl (sym (step-done i k q) ∙ e)
 
   -- a node that its parent lists
-  pub down_is : (i k c : ℕ) → k < length (kids t i) → get_or (kids t i) k 0 ≡ c → (node_at t c).parent ≡ some i → step_of t i k ≡ Down c
+  pub down_is : (i k c : ℕ) → k < length (kids t i) → get_or (kids t i) k 0 ≡ c → (node_at t c).parent ≡ Some i → step_of t i k ≡ Down c
   unfolding down_of names
   down_is i k c h e p = step_in i k h ∙ ap (down_of t i) e ∙ rw (p, eq-eqb i i refl)
 
-  pub up_is : (c k i : ℕ) → length (kids t c) ≤ k → (node_at t c).parent ≡ some i → step_of t c k ≡ Up i (place_after c (node_at t i).list)
+  pub up_is : (c k i : ℕ) → length (kids t c) ≤ k → (node_at t c).parent ≡ Some i → step_of t c k ≡ Up i (place_after c (node_at t i).list)
   unfolding up_of
   up_is c k i h p = step-done c k h ∙ ap (up_of t c) p
 
-  pub end_is : (i k : ℕ) → length (kids t i) ≤ k → (node_at t i).parent ≡ none → step_of t i k ≡ End
+  pub end_is : (i k : ℕ) → length (kids t i) ≤ k → (node_at t i).parent ≡ None → step_of t i k ≡ End
   unfolding up_of
   end_is i k h p = step-done i k h ∙ ap (up_of t i) p
 

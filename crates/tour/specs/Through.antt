@@ -1,8 +1,7 @@
 -- Condition 4, the other way: where the levels have each node once and each list's nodes name its node, the walk comes to its end.
-use Rattle.std.specs.Prelude.{ℕ, zero, suc, ◌+◌, ◌-◌, ◌*◌, ◌≤◌, ◌<◌, ◌≡◌, false, cond, ◌||◌, List, [], ◌∷◌, eqb, get_or}
+use Rattle.std.specs.Prelude.{ℕ, zero, suc, ◌+◌, ◌-◌, ◌*◌, ◌≤◌, ◌<◌, ◌≡◌, false, cond, ◌||◌, List, [], ◌∷◌, eqb, get_or, None, Some}
 use Rattle.std.proofs.Math.Path.{refl, ap, subst}
 use Rattle.std.proofs.Common.{sym, ◌∙◌, inl, inr}
-use Rattle.std.proofs.Math.Option.{none, some}
 use native.Mathlib.Omega.{arith}
 use Rattle.std.proofs.Math.Dec.{T, eqb→eq}
 use Rattle.std.specs.Float.Ieee.Fits.{and_l}
@@ -25,7 +24,7 @@ use Rattle.tour.specs.Levels.{deep-over, levels_more}
 use Rattle.tour.specs.Whole.{root_none, walk_sums}
 use Rattle.tour.specs.declared.Step.TheVariants.{Down, Up}
 
-none-some : {a : ℕ} → none ≡ some a → ⊥
+none-some : {a : ℕ} → None ≡ Some a → ⊥
 none-some e = let z : ◌≡◌ {A = ℕ} 0 1 = cc in omega arith
 
 module _ (s : Settings) (t : Tree) (h2 : T (rooted t)) (h3 : T (every (list_fits s t) t.nodes))
@@ -66,7 +65,7 @@ module _ (s : Settings) (t : Tree) (h2 : T (rooted t)) (h3 : T (every (list_fits
     lists : 0 < occurs c (node_at t i).list
     lists = subst (λ l. 0 < occurs c l) (kids_list t i inner) (at-occurs c (kids t i) k h refl)
 
-    kid_names : (node_at t c).parent ≡ some i
+    kid_names : (node_at t c).parent ≡ Some i
     unfolding own_list
     kid_names =
         let q = up_at (own_list t) (length t.nodes) 0 owns i (omega arith) (let a = there in omega arith) in

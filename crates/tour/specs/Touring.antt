@@ -1,9 +1,8 @@
 -- A walk that comes to its end has gone through the whole list of each node that it met, and through all beneath.
-use Rattle.std.specs.Prelude.{ℕ, zero, suc, ◌+◌, ◌-◌, ◌≤◌, ◌<◌, ◌≡◌, ◌⊎◌, ◌≢◌, length, get_or}
+use Rattle.std.specs.Prelude.{ℕ, zero, suc, ◌+◌, ◌-◌, ◌≤◌, ◌<◌, ◌≡◌, ◌⊎◌, ◌≢◌, length, get_or, Some}
 use Rattle.std.proofs.Math.Path.{refl, ap, subst}
 use Rattle.std.proofs.Common.{sym, ◌∙◌, inl, inr}
 use mathlib.Core.List.{[], ◌∷◌}
-use Rattle.std.proofs.Math.Option.{some}
 use native.Mathlib.Omega.{arith}
 use Rattle.std.proofs.Math.ListN.{drop, drop_of_length-le}
 use Rattle.rules.specs.Lists.{occurs}
@@ -29,7 +28,7 @@ module _ (t : Tree) where
     pub ends : Ends t n i (length (kids t i))
     pub sums : (v : ℕ → ℕ → ℕ) (d f : ℕ) → m ≤ f
         → tally t v m i k d ≡ over (beneath t v f (suc d)) (drop k (kids t i)) + tally t v n i (length (kids t i)) d
-    pub own : (c : ℕ) → 0 < occurs c (drop k (kids t i)) → (node_at t c).parent ≡ some i
+    pub own : (c : ℕ) → 0 < occurs c (drop k (kids t i)) → (node_at t c).parent ≡ Some i
 
   -- with the list done
   done : (i k m : ℕ) → k ≡ length (kids t i) → Ends t m i k → Toured i k m
@@ -64,7 +63,7 @@ module _ (t : Tree) where
       go (inr q) = let w = few in omega arith
 
   -- from c, with its list done, the walk goes up to the next of the list
-  back_up : (i k c m n : ℕ) → k < length (kids t i) → get_or (kids t i) k 0 ≡ c → (node_at t c).parent ≡ some i → Visited i k m → n < m
+  back_up : (i k c m n : ℕ) → k < length (kids t i) → get_or (kids t i) k 0 ≡ c → (node_at t c).parent ≡ Some i → Visited i k m → n < m
       → Ends t n c (length (kids t c)) → (x : ℕ) × (n ≡ suc x) × (step_of t c (length (kids t c)) ≡ Up i (suc k)) × Ends t x i (suc k)
   back_up i k c m zero h e p seen l g = absurd (up_end (sym (up_is t c (length (kids t c)) i (omega arith) p) ∙ g))
   back_up i k c m (suc x) h e p seen l (inl (a, f, g)) = absurd (down_up (sym f ∙ up_is t c (length (kids t c)) i (omega arith) p))
@@ -103,7 +102,7 @@ module _ (t : Tree) where
       go x z r j a (inl e) = (x, omega arith, subst (Ends t x i) (sym e) z)
       go x z r j a (inr e) = let (n, s, w) = seen j (omega arith) in (n, omega arith, w)
 
-      joined : (c x : ℕ) → step_of t i k ≡ Down c → k < length (kids t i) → get_or (kids t i) k 0 ≡ c → (node_at t c).parent ≡ some i → (under : Toured c 0 m)
+      joined : (c x : ℕ) → step_of t i k ≡ Down c → k < length (kids t i) → get_or (kids t i) k 0 ≡ c → (node_at t c).parent ≡ Some i → (under : Toured c 0 m)
           → under.n ≡ suc x → step_of t c (length (kids t c)) ≡ Up i (suc k) → Toured i (suc k) x → Toured i k (suc m)
       joined c x f q e p under y u on = record {
         n = on.n;
@@ -132,8 +131,8 @@ module _ (t : Tree) where
               let bn : beneath t v (suc g) (suc d) c ≡ v (suc d) c + over (beneath t v g (suc (suc d))) (kids t c) = unfold beneath in refl in
               omega arith
 
-          owned : (a : ℕ) → 0 < occurs a (drop k (kids t i)) → (a ≡ c) ⊎ (a ≢ c) → (node_at t a).parent ≡ some i
-          owned a o (inl w) = subst (λ y. (node_at t y).parent ≡ some i) (sym w) p
+          owned : (a : ℕ) → 0 < occurs a (drop k (kids t i)) → (a ≡ c) ⊎ (a ≢ c) → (node_at t a).parent ≡ Some i
+          owned a o (inl w) = subst (λ y. (node_at t y).parent ≡ Some i) (sym w) p
           owned a o (inr w) =
               on.own a (let s = occurs-cons a c (drop (suc k) (kids t i)) in let r : occurs a (drop k (kids t i)) ≡ occurs a (c ∷ drop (suc k) (kids t i)) = ap (occurs a) parts in
               let u = is_other a c w in omega arith)

@@ -1,7 +1,6 @@
 -- One walk from the root along the links, as code takes it: into each node of a list that names the list's node as its parent, on to the
 -- next of the list, and up when the list is done. It counts the nodes that it meets and keeps the depths of leaves, inner nodes and forks.
-use Rattle.std.specs.Prelude.{ℕ, zero, suc, ◌-◌, ◌*◌, Bool, true, false, cond, ◌&&◌, ◌||◌, not, List, [], ◌∷◌, ltb, eqb, length, get_or}
-use Rattle.std.proofs.Math.Option.{Option, none, some}
+use Rattle.std.specs.Prelude.{ℕ, zero, suc, ◌-◌, ◌*◌, Bool, true, false, cond, ◌&&◌, ◌||◌, not, List, [], ◌∷◌, ltb, eqb, length, get_or, Option, None, Some}
 use Rattle.rules.specs.Lists.{every, up_from}
 use Rattle.rules.specs.Tree.{Tree, node_at}
 use Rattle.rules.specs.Check.{names}
@@ -59,8 +58,8 @@ place_after c (x ∷ l) = cond (eqb x c) 1 (suc (place_after c l))
 
 -- up from node i, whose list is done
 unfoldable pub up_of : Tree → ℕ → Option ℕ → Step
-up_of t i none = End
-up_of t i (some p) = Up p (place_after i (node_at t p).list)
+up_of t i None = End
+up_of t i (Some p) = Up p (place_after i (node_at t p).list)
 
 -- down from node i to c of its list
 unfoldable pub down_of : Tree → ℕ → ℕ → Step

@@ -1,9 +1,8 @@
 -- Condition 4, the nodes: a walk that comes to its end and has met as many nodes as there are has met each of the levels' nodes once.
-use Rattle.std.specs.Prelude.{ℕ, suc, ◌+◌, ◌≤◌, ◌<◌, ◌≡◌, ◌⊎◌, ◌≢◌, Bool, true, [], ◌∷◌, ltb, drop}
+use Rattle.std.specs.Prelude.{ℕ, suc, ◌+◌, ◌≤◌, ◌<◌, ◌≡◌, ◌⊎◌, ◌≢◌, Bool, true, [], ◌∷◌, ltb, drop, None, Some}
 use Rattle.std.proofs.Math.Path.{refl, sym, ap, subst}
 use Rattle.std.proofs.Common.{◌∙◌, inl, inr}
 use Rattle.std.proofs.Math.Bool.{false}
-use Rattle.std.proofs.Math.Option.{none, some}
 use native.Mathlib.Omega.{arith}
 use Rattle.std.proofs.Math.Dec.{T, eqb, ltb→lt, eqb_refl}
 use Rattle.std.specs.Float.Ieee.Bits.{is_true}
@@ -33,7 +32,7 @@ module _ (s : Settings) (t : Tree) (h2 : T (rooted t)) (h3 : T (every (list_fits
   unfolding rooted
   root_in = ltb→lt t.root (length t.nodes) (and_l (ltb t.root (length t.nodes)) (orphan (node_at t t.root).parent) h2)
 
-  pub root_none : (node_at t t.root).parent ≡ none
+  pub root_none : (node_at t t.root).parent ≡ None
   unfolding rooted
   root_none = orphan-none (node_at t t.root).parent (and_r (ltb t.root (length t.nodes)) (orphan (node_at t t.root).parent) h2)
 
@@ -142,11 +141,11 @@ module _ (s : Settings) (t : Tree) (h2 : T (rooted t)) (h3 : T (every (list_fits
             let toured = tour_from t n i z in
             go (node_at t i).leaf refl toured.own
           where
-            go : (b : Bool) → (node_at t i).leaf ≡ b → ((c : ℕ) → 0 < occurs c (drop 0 (kids t i)) → (node_at t c).parent ≡ some i) → T (own_list t i)
+            go : (b : Bool) → (node_at t i).leaf ≡ b → ((c : ℕ) → 0 < occurs c (drop 0 (kids t i)) → (node_at t c).parent ≡ Some i) → T (own_list t i)
             go true e o = unfold own_list in or_left (node_at t i).leaf _ (subst T (sym e) tt)
             go false e o = unfold own_list in or_right (node_at t i).leaf _
                 (every_list (λ c. names i (node_at t c).parent) 0 (node_at t i).list (λ k q. named (get_or (node_at t i).list k 0)
                 (o (get_or (node_at t i).list k 0) (subst (λ l. 0 < occurs (get_or (node_at t i).list k 0) l) (sym (kids_list t i e)) (at-occurs _ (node_at t i).list k q refl)))))
               where
-                named : (c : ℕ) → (node_at t c).parent ≡ some i → T (names i (node_at t c).parent)
+                named : (c : ℕ) → (node_at t c).parent ≡ Some i → T (names i (node_at t c).parent)
                 named c p = unfold names in subst (λ x. T (names i x)) (sym p) (eqb_refl i)

@@ -15,7 +15,6 @@ ghost use Rattle.tour.specs.Loops.{ParentIn};
 use crate::depths::Depths;
 use arena::links;
 use head::{Counters, Settings};
-use stretch::block::Parent;
 
 // A step of the walk: down to a node, up to a node with that many of its list done, the end, or off the tree.
 #[derive(Clone, Copy)]
@@ -53,8 +52,8 @@ fn up(s: Settings, n: Counters, links: &[u32], i: usize) -> Step
     ensures { AnyFloats s n links.now (λ t. result ≡ up_of t i (node_at t i).parent) }
 {
     match links::parent(s, n, links, i) {
-        Parent::Node(p) => Step::Up(p, place_after(links::list(s, n, links, p), i)),
-        Parent::NoParent => Step::End,
+        Some(p) => Step::Up(p, place_after(links::list(s, n, links, p), i)),
+        None => Step::End,
     }
 }
 
@@ -63,7 +62,7 @@ fn down(s: Settings, n: Counters, links: &[u32], i: usize, c: usize) -> Step
     requires { Links s n (length links.now) × (c < n.nodes) }
     ensures { AnyFloats s n links.now (λ t. result ≡ down_of t i c) }
 {
-    let Parent::Node(p) = links::parent(s, n, links, c) else {
+    let Some(p) = links::parent(s, n, links, c) else {
         return Step::Astray;
     };
     if p == i { Step::Down(c) } else { Step::Astray }

@@ -1,10 +1,9 @@
 -- A tree that passes the check's conditions 2 to 6, with an entry, has links with ranks.
-use Rattle.std.specs.Prelude.{ℕ, zero, suc, ◌+◌, ◌-◌, ◌*◌, ◌≤◌, ◌<◌, ◌≡◌, ◌⊎◌, ◌≢◌, Bool, ◌&&◌, ◌||◌, leb}
+use Rattle.std.specs.Prelude.{ℕ, zero, suc, ◌+◌, ◌-◌, ◌*◌, ◌≤◌, ◌<◌, ◌≡◌, ◌⊎◌, ◌≢◌, Bool, ◌&&◌, ◌||◌, leb, Option, None, Some}
 use Rattle.std.proofs.Math.Path.{refl, sym, ap, subst}
 use Rattle.std.proofs.Common.{◌∙◌, inl, inr, true≢false, not-suc-le-zero, one-mul}
 use Rattle.std.proofs.Math.Bool.{true, false, cond}
 use mathlib.Core.List.{List, [], ◌∷◌}
-use Rattle.std.proofs.Math.Option.{Option, none, some}
 use native.Mathlib.Omega.{arith}
 use Rattle.std.proofs.Math.Dec.{T, ltb, eqb, leb→le, ltb→lt, eqb→eq}
 use Rattle.std.specs.Float.Ieee.Fits.{and_l, and_r}
@@ -86,15 +85,15 @@ or_else : (a b : Bool) → T (a || b) → (T b → ⊥) → T a
 or_else true b h n = tt
 or_else false b h n = absurd (n h)
 
-pub names-is : (i : ℕ) (o : Option ℕ) → T (names i o) → o ≡ some i
+pub names-is : (i : ℕ) (o : Option ℕ) → T (names i o) → o ≡ Some i
 unfolding names
-names-is i none h = absurd h
-names-is i (some p) h = ap some (sym (eqb→eq i p h))
+names-is i None h = absurd h
+names-is i (Some p) h = ap Some (sym (eqb→eq i p h))
 
-pub orphan-none : (o : Option ℕ) → T (orphan o) → o ≡ none
+pub orphan-none : (o : Option ℕ) → T (orphan o) → o ≡ None
 unfolding orphan
-orphan-none none h = refl
-orphan-none (some p) h = absurd h
+orphan-none None h = refl
+orphan-none (Some p) h = absurd h
 
 module _ (s : Settings) (t : Tree) (h2 : T (rooted t)) (h3 : T (every (list_fits s t) t.nodes)) (h4 : T (linked t)) (h5 : T (filled t))
     (not-lone : T (lone_root t) → ⊥) where
@@ -152,7 +151,7 @@ module _ (s : Settings) (t : Tree) (h2 : T (rooted t)) (h3 : T (every (list_fits
           unfold levels once_each in eqb→eq (length (concat (levels t))) (length t.nodes) (and_l (eqb (length (concat (levels t))) (length t.nodes))
           (every (λ i. eqb (occurs i (concat (levels t))) 1) (up_from (length t.nodes) 0)) once_nodes)
 
-  kid' : (i c : ℕ) → i < length t.nodes → (node_at t i).leaf ≡ false → 0 < occurs c (node_at t i).list → ((node_at t c).parent ≡ some i) ×
+  kid' : (i c : ℕ) → i < length t.nodes → (node_at t i).leaf ≡ false → 0 < occurs c (node_at t i).list → ((node_at t c).parent ≡ Some i) ×
       (ranks i ≡ suc (ranks c))
   unfolding own_list ranks
   kid' i c l f o = (
@@ -223,7 +222,7 @@ module _ (s : Settings) (t : Tree) (h2 : T (rooted t)) (h3 : T (every (list_fits
   unfolding rooted
   in' = ltb→lt t.root (length t.nodes) (and_l (ltb t.root (length t.nodes)) (orphan (node_at t t.root).parent) h2)
 
-  root_top' : (node_at t t.root).parent ≡ none
+  root_top' : (node_at t t.root).parent ≡ None
   unfolding rooted
   root_top' = orphan-none (node_at t t.root).parent (and_r (ltb t.root (length t.nodes)) (orphan (node_at t t.root).parent) h2)
 

@@ -1,8 +1,7 @@
 -- The empty tree and the check.
-use Rattle.std.specs.Prelude.{ℕ, suc, ◌+◌, ◌*◌, ◌/◌, ◌≤◌, ◌≡◌, refl, Bool, true, false, ◌&&◌, ◌||◌, cond, List, [], ◌∷◌, ◌++◌, T, leb, ltb, eqb, length}
+use Rattle.std.specs.Prelude.{ℕ, suc, ◌+◌, ◌*◌, ◌/◌, ◌≤◌, ◌≡◌, refl, Bool, true, false, ◌&&◌, ◌||◌, cond, List, [], ◌∷◌, ◌++◌, T, leb, ltb, eqb, length, Option, None, Some}
 use Rattle.std.proofs.Common.{ap, ◌∙◌, subst, true≢false, le→leb, lt→ltb}
 use Rattle.std.proofs.lemmas.Bool.{false≢true}
-use Rattle.std.proofs.Math.Option.{Option, none, some}
 use native.Mathlib.Omega.{arith}
 use Rattle.std.proofs.Math.Dec.{ltb→lt, eqb→eq}
 use Rattle.std.specs.Float.{binary64}
@@ -67,15 +66,15 @@ one_of m r = record { nodes = m ∷ []; entries = []; root = 0; running = r }
 
 -- the lone node of such a tree
 lone_node : (s : Settings) (m : Node) (r : Running) → T (rooted (one_of m r)) → T (every (list_fits s (one_of m r)) (m ∷ [])) → T
-    (linked (one_of m r)) → T (filled (one_of m r)) → (m.list ≡ []) × (m.leaf ≡ true) × (m.parent ≡ none)
+    (linked (one_of m r)) → T (filled (one_of m r)) → (m.list ≡ []) × (m.leaf ≡ true) × (m.parent ≡ None)
 unfolding rooted every list_fits linked filled orphan node_at lone_root once_each levels levels_from next_level concat known
 lone_node s m r h2 h3 h4 h5 = go m.list refl m.leaf refl
   where
-    parent' : (o : Option ℕ) → T (orphan o) → o ≡ none
-    parent' none q = refl
-    parent' (some p) q = absurd q
+    parent' : (o : Option ℕ) → T (orphan o) → o ≡ None
+    parent' None q = refl
+    parent' (Some p) q = absurd q
 
-    go : (ks : List ℕ) → m.list ≡ ks → (b : Bool) → m.leaf ≡ b → (m.list ≡ []) × (m.leaf ≡ true) × (m.parent ≡ none)
+    go : (ks : List ℕ) → m.list ≡ ks → (b : Bool) → m.leaf ≡ b → (m.list ≡ []) × (m.leaf ≡ true) × (m.parent ≡ None)
     go [] e true f = (e, f, parent' m.parent h2)
     go [] e false f =
         absurd (subst (λ b. T (b && true)) f (and_l (m.leaf && true) true (subst (λ ks. T ((ltb 0 (length ks) || (m.leaf && true)) && true)) e h5)))
@@ -152,7 +151,7 @@ checked-bare s t lent none_in h =
         (λ es. as_tree (m ∷ []) es t.root) (no_entries t.entries none_in) ∙ ap (λ r. as_tree (m ∷ []) [] r) r in
         let q = lone_node s m t.running (subst (λ u. T (rooted u)) p h2) (subst (λ u. T (every (list_fits s u) u.nodes)) p h3)
         (subst (λ u. T (linked u)) p h4) (subst (λ u. T (filled u)) p h5) in
-        let o : m ≡ as_node m.summary [] true none = ap (λ ks. as_node m.summary ks m.leaf m.parent) q.0 ∙ ap
+        let o : m ≡ as_node m.summary [] true None = ap (λ ks. as_node m.summary ks m.leaf m.parent) q.0 ∙ ap
         (λ l. as_node m.summary [] l m.parent) q.1 ∙ ap (λ o. as_node m.summary [] true o) q.2 in
         let w : t ≡ empty_tree m.summary t.running = p ∙ ap (λ m. one_of m t.running) o in
         record { summary = m.summary; zero = zero_of m.summary t.running (fit m p) (subst (λ u. T (weighed u)) w h7); is = w }

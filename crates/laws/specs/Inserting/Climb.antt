@@ -1,8 +1,8 @@
 -- A weight pushed along the parents keeps each node the sum of its list.
-use Rattle.std.specs.Prelude.{ℕ, zero, suc, ◌+◌, ◌≤◌, ◌<◌, ◌≡◌, ◌⊎◌, ◌≢◌, true, false, List}
+use Rattle.std.specs.Prelude.{ℕ, zero, suc, ◌+◌, ◌≤◌, ◌<◌, ◌≡◌, ◌⊎◌, ◌≢◌, true, false, List, Option, None, Some}
+use Rattle.std.proofs.lemmas.Option.{none-some, same_Some}
 use Rattle.std.proofs.Math.Path.{refl, ap, subst}
 use Rattle.std.proofs.Common.{sym, ◌∙◌, inl, inr, arith}
-use Rattle.std.proofs.Math.Option.{Option, none, some, some-injective, none-ne-some}
 use Rattle.std.proofs.Math.ListN.{length}
 use Rattle.binary64.specs.Whole.{most}
 use Rattle.feature.specs.declared.Summary.{Summary}
@@ -141,7 +141,7 @@ module _ {s : Settings} (F : Summary → Summary) {t : Tree} {R : ℕ → ℕ} {
           off q = omega arith
 
   -- who does not name m: a leaf, a node whose list lacks it
-  apart : (k : ℕ) → k < length t.nodes → ((node_at t m).parent ≡ some k → ⊥) → ((node_at t k).leaf ≡ true) ⊎ (occurs m (node_at t k).list ≡ 0)
+  apart : (k : ℕ) → k < length t.nodes → ((node_at t m).parent ≡ Some k → ⊥) → ((node_at t k).leaf ≡ true) ⊎ (occurs m (node_at t k).list ≡ 0)
   apart k h e = go (leaf? (node_at t k)) (same? (occurs m (node_at t k).list) 0)
     where
       go : ((node_at t k).leaf ≡ true) ⊎ ((node_at t k).leaf ≡ false) → (occurs m (node_at t k).list ≡ 0) ⊎ (occurs m (node_at t k).list ≢ 0)
@@ -150,7 +150,7 @@ module _ {s : Settings} (F : Summary → Summary) {t : Tree} {R : ℕ → ℕ} {
       go (inr f) (inl q) = inr q
       go (inr f) (inr q) = absurd (e (w.links.kid k m h f (omega arith)).0)
 
-  sums_apart : (k : ℕ) → k < length t.nodes → ((node_at t m).parent ≡ some k → ⊥)
+  sums_apart : (k : ℕ) → k < length t.nodes → ((node_at t m).parent ≡ Some k → ⊥)
       → node_weight raised k ≡ own (node_at raised k) (entry_weight t) (node_weight raised) + only d l k
   sums_apart k h e = go (same? k m)
     where
@@ -179,19 +179,19 @@ module _ {s : Settings} (F : Summary → Summary) {t : Tree} {R : ℕ → ℕ} {
       go (inr q) = let a = wt_o k q in let b = w.bound k h in omega arith
 
   -- no parent: done
-  pub last_step : (node_at t m).parent ≡ none → Pushed s raised R d l total
+  pub last_step : (node_at t m).parent ≡ None → Pushed s raised R d l total
   unfolding with_nodes entry_weight entry_at
   last_step e = record {
     links = raised_links;
     exact = raised_exact;
-    sums = (λ k h. sums_apart k (subst (λ n. k < n) len h) (λ q. none-ne-some k (sym e ∙ q)));
+    sums = (λ k h. sums_apart k (subst (λ n. k < n) len h) (λ q. none-some k (sym e ∙ q)));
     bound = (λ k h. bound' k (subst (λ n. k < n) len h));
     at_top = subst (λ z. node_weight raised z ≡ total) (no_parent_lem w.links m w.here refl e)
         (wt_m ∙ ap (λ z. node_weight t z + d) (no_parent_lem w.links m w.here refl e) ∙ w.at_top);
   }
 
   -- a parent: it waits next
-  module _ (p : ℕ) (e : (node_at t m).parent ≡ some p) where
+  module _ (p : ℕ) (e : (node_at t m).parent ≡ Some p) where
     up : (p < length t.nodes) × ((node_at t p).leaf ≡ false) × (occurs m (node_at t p).list ≡ 1) × (R p ≡ suc (R m))
     up = parent_lists w.links m p w.here refl e
 
@@ -205,7 +205,7 @@ module _ {s : Settings} (F : Summary → Summary) {t : Tree} {R : ℕ → ℕ} {
         clash x y = omega arith
 
     root≢m : t.root ≢ m
-    root≢m q = none-ne-some p (sym w.links.root_top ∙ ap (λ z. (node_at t z).parent) q ∙ e)
+    root≢m q = none-some p (sym w.links.root_top ∙ ap (λ z. (node_at t z).parent) q ∙ e)
 
     sums'' : (k : ℕ) → k < length t.nodes → node_weight raised k + only d p k ≡ own (node_at raised k) (entry_weight t) (node_weight raised) + only d l k
     sums'' k h = go (same? k p)
@@ -213,7 +213,7 @@ module _ {s : Settings} (F : Summary → Summary) {t : Tree} {R : ℕ → ℕ} {
         go : (k ≡ p) ⊎ (k ≢ p) → node_weight raised k + only d p k ≡ own (node_at raised k) (entry_weight t) (node_weight raised) + only d l k
         go (inr q) =
             let a = only_off d p k q in
-            let b = sums_apart k h (λ z. q (sym (some-injective p k (sym e ∙ z)))) in
+            let b = sums_apart k h (λ z. q (sym (same_Some p k (sym e ∙ z)))) in
             omega arith
         go (inl q) =
             let a = only_at d p k q in
@@ -245,23 +245,23 @@ module _ {s : Settings} (F : Summary → Summary) {t : Tree} {R : ℕ → ℕ} {
       at_top = ap (λ z. z + d) (wt_o t.root root≢m) ∙ w.at_top;
     }
 
-climb_none : (F : Summary → Summary) (k : ℕ) (ns : List Node) → climbed F k none ns ≡ ns
+climb_none : (F : Summary → Summary) (k : ℕ) (ns : List Node) → climbed F k None ns ≡ ns
 unfolding climbed
 climb_none F zero ns = refl
 climb_none F (suc k) ns = refl
 
 pub climb_up : (s : Settings) (F : Summary → Summary) (k : ℕ) (t : Tree) (R : ℕ → ℕ) (d m l total : ℕ) → Adds F d → Waiting s t R d m l total
-    → R t.root < R m + k → Pushed s (with_nodes (climbed F k (some m) t.nodes) t) R d l total
+    → R t.root < R m + k → Pushed s (with_nodes (climbed F k (Some m) t.nodes) t) R d l total
 unfolding climbed with_nodes node_at
 climb_up s F zero t R d m l total a w h = let q = w.links.top m w.here in absurd (omega arith)
 climb_up s F (suc k) t R d m l total a w h = go (node_at t m).parent refl (λ p v q. climb_up s F k (raised F a w) R d p l total a v q)
   where
     go : (o : Option ℕ) → (node_at t m).parent ≡ o
         → ((p : ℕ) → Waiting s (raised F a w) R d p l total → R t.root < R p + k → Pushed s
-        (with_nodes (climbed F k (some p) (change_at (summed F) m t.nodes)) t) R d l total)
+        (with_nodes (climbed F k (Some p) (change_at (summed F) m t.nodes)) t) R d l total)
         → Pushed s (with_nodes (climbed F k o (change_at (summed F) m t.nodes)) t) R d l total
-    go none e ih = subst (λ ns. Pushed s (with_nodes ns t) R d l total) (sym (climb_none F k (change_at (summed F) m t.nodes))) (last_step F a w e)
-    go (some p) e ih = ih p (next-step F a w p e) (let q = up_rank F a w p e in omega arith)
+    go None e ih = subst (λ ns. Pushed s (with_nodes ns t) R d l total) (sym (climb_none F k (change_at (summed F) m t.nodes))) (last_step F a w e)
+    go (Some p) e ih = ih p (next-step F a w p e) (let q = up_rank F a w p e in omega arith)
 
 -- the path of a leaf, all of it
 pub path_pushed : (s : Settings) (F : Summary → Summary) (t : Tree) (R : ℕ → ℕ) (d l total : ℕ) → Adds F d → Settled s t R total → l < length t.nodes

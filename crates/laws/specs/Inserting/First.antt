@@ -1,10 +1,9 @@
 -- The empty tree: what comes in first makes a tree of one leaf. The invariant of any tree, empty or not.
-use Rattle.std.specs.Prelude.{ℕ, suc, ◌+◌, ◌≤◌, ◌<◌, ◌≡◌, ◌⊎◌, length, Float}
+use Rattle.std.specs.Prelude.{ℕ, suc, ◌+◌, ◌≤◌, ◌<◌, ◌≡◌, ◌⊎◌, length, Float, None}
 use Rattle.std.proofs.Math.Path.{refl, ap, subst}
 use Rattle.std.proofs.Common.{sym, ◌∙◌, inl, inr, true≢false, arith}
 use Rattle.std.proofs.Math.Bool.{true}
 use mathlib.Core.List.{List, [], ◌∷◌}
-use Rattle.std.proofs.Math.Option.{none}
 use Rattle.std.specs.Float.Ieee.{neg, eq, of_int}
 use Rattle.binary64.specs.Operators.{f1, ◌⊕◌}
 use Rattle.binary64.specs.Whole.{whole, whole_1, most}
@@ -28,7 +27,7 @@ use Rattle.laws.specs.Inserting.Descent.{leaf-found}
 
 -- one leaf of list ks and summary z, and entries es
 abbrev pub lone : Summary → List ℕ → List Summary → Running → Tree
-lone z ks es r = record { nodes = record { summary = z; list = ks; leaf = true; parent = none } ∷ []; entries = es; root = 0; running = r }
+lone z ks es r = record { nodes = record { summary = z; list = ks; leaf = true; parent = None } ∷ []; entries = es; root = 0; running = r }
 
 abbrev pub empty_tree : Summary → Running → Tree
 empty_tree z r = lone z [] [] r

@@ -1,16 +1,13 @@
 -- What a placing in a leaf gives, and the splits that follow it.
-use Rattle.std.specs.Prelude.{ℕ, zero, suc, ◌+◌, ◌≤◌, ◌<◌, ◌≡◌, refl, true, List, [], ◌∷◌, length, get_or, Float}
+use Rattle.std.specs.Prelude.{ℕ, zero, suc, ◌+◌, ◌≤◌, ◌<◌, ◌≡◌, refl, true, List, [], ◌∷◌, length, get_or, Float, Option, None, Some}
 use Rattle.std.proofs.Common.{sym, ◌∙◌}
 use Rattle.std.proofs.Math.Path.{ap, subst}
-use Rattle.std.proofs.Math.Option.{Option, none, some}
 use native.Mathlib.Omega.{arith}
 use Rattle.std.specs.Float.Ieee.{lt}
 use Rattle.binary64.specs.Operators.{infinity}
 use Rattle.feature.specs.declared.Summary.{Summary}
 use Rattle.feature.specs.Summaries.{blank}
 use Rattle.head.specs.declared.Settings.{Settings}
-use Rattle.rules.specs.declared.Nearest.{Nearest}
-use Rattle.rules.specs.declared.Nearest.TheVariants.{Entry, Nothing}
 use Rattle.rules.specs.Lists.{change_at, occurs}
 use Rattle.rules.specs.Tree.{Node, Tree, node_at, entry_at, blank_node, with_nodes, with_entries, summed, row_count}
 use Rattle.rules.specs.Descent.{better, Search, searching, searched, climbed, along_path}
@@ -34,30 +31,30 @@ pub climb_keeps : {B : Type 0} (F : Summary → Summary) (g : Node → B) → ((
     → g (get_or (climbed F k o ns) i blank_node) ≡ g (get_or ns i blank_node)
 unfolding climbed
 climb_keeps F g h zero o ns i = refl
-climb_keeps F g h (suc k) none ns i = refl
-climb_keeps F g h (suc k) (some n) ns i =
+climb_keeps F g h (suc k) None ns i = refl
+climb_keeps F g h (suc k) (Some n) ns i =
     climb_keeps F g h k (get_or ns n blank_node).parent (change_at (summed F) n ns) i ∙ change_keeps g (summed F) n i blank_node ns h
 
 climb_length : (F : Summary → Summary) (k : ℕ) (o : Option ℕ) (ns : List Node) → length (climbed F k o ns) ≡ length ns
 unfolding climbed
 climb_length F zero o ns = refl
-climb_length F (suc k) none ns = refl
-climb_length F (suc k) (some n) ns = climb_length F k (get_or ns n blank_node).parent (change_at (summed F) n ns) ∙ length-change (summed F) n ns
+climb_length F (suc k) None ns = refl
+climb_length F (suc k) (Some n) ns = climb_length F k (get_or ns n blank_node).parent (change_at (summed F) n ns) ∙ length-change (summed F) n ns
 
 pub path_leaf : (F : Summary → Summary) (l : ℕ) (t : Tree) (k : ℕ) → (node_at (along_path F l t) k).leaf ≡ (node_at t k).leaf
 unfolding along_path with_nodes node_at summed
-path_leaf F l t k = climb_keeps F (λ m. m.leaf) (λ m. refl) (length t.nodes) (some l) t.nodes k
+path_leaf F l t k = climb_keeps F (λ m. m.leaf) (λ m. refl) (length t.nodes) (Some l) t.nodes k
 
 pub path_length : (F : Summary → Summary) (l : ℕ) (t : Tree) → length (along_path F l t).nodes ≡ length t.nodes
 unfolding along_path with_nodes
-path_length F l t = climb_length F (length t.nodes) (some l) t.nodes
+path_length F l t = climb_length F (length t.nodes) (Some l) t.nodes
 
 -- ---- the leaf search finds an entry of the list
 
 -- what the search gives, if it gives one, is so
-abbrev pub Hit : (ℕ → Type 0) → Nearest → Type 0
-Hit P Nothing = Unit
-Hit P (Entry e) = P e
+abbrev pub Hit : (ℕ → Type 0) → Option ℕ → Type 0
+Hit P None = Unit
+Hit P (Some e) = P e
 
 searching_among : (P : ℕ → Type 0) (f : ℕ → Float) (b : Search) (ks : List ℕ) → Hit P b.near → ((c : ℕ) → 0 < occurs c ks → P c)
     → Hit P (searching f b ks).near
@@ -65,12 +62,12 @@ unfolding searching better
 searching_among P f b [] hb h = hb
 searching_among P f b (k ∷ ks) hb h =
     searching_among P f (better b k (f k)) ks
-    (either (λ u. Hit P u.near) (lt (f k) b.least) (record { near = Entry k; least = f k }) b (h k (occurs_here k ks)) hb)
+    (either (λ u. Hit P u.near) (lt (f k) b.least) (record { near = Some k; least = f k }) b (h k (occurs_here k ks)) hb)
     (λ c o. h c (occurs_later c k ks o))
 
 pub search_among : (f : ℕ → Float) (l : List ℕ) → Hit (λ e. 0 < occurs e l) (searched f l)
 unfolding searched
-search_among f l = searching_among (λ e. 0 < occurs e l) f (record { near = Nothing; least = infinity }) l tt (λ c o. o)
+search_among f l = searching_among (λ e. 0 < occurs e l) f (record { near = None; least = infinity }) l tt (λ c o. o)
 
 -- ---- the entries' total
 

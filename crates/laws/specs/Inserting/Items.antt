@@ -1,6 +1,6 @@
 -- Any item into any tree that holds: in its leaf before any split, and then, with its rows more.
 use Prim.Native.Nat.{ℕ, zero, suc, ◌+◌, ◌≤◌, ◌<◌}
-use Rattle.std.specs.Prelude.{◌≡◌, Bool, cond, List, Float}
+use Rattle.std.specs.Prelude.{◌≡◌, Bool, cond, List, Float, Option, None, Some}
 use Rattle.std.proofs.Math.Path.{refl}
 use Rattle.std.proofs.Common.{sym, ap, ◌∙◌, subst, inl, inr}
 use Rattle.std.proofs.Math.Bool.{true, false}
@@ -15,8 +15,6 @@ use Rattle.feature.specs.Weights.{merged_copy}
 use Rattle.feature.specs.Summaries.{blank}
 use Rattle.head.specs.declared.Settings.{Settings}
 use Rattle.head.specs.declared.Running.{Running}
-use Rattle.rules.specs.declared.Nearest.{Nearest}
-use Rattle.rules.specs.declared.Nearest.TheVariants.{Entry, Nothing}
 use Rattle.rules.specs.Lists.{change_at, snoc, occurs}
 use Rattle.rules.specs.Tree.{Tree, push, merge, node_at, entry_at, with_nodes, with_entries, adding, with_list, summed, row_count}
 use Rattle.rules.specs.Descent.{searched, searching, leaf_for, climbed, along_path}
@@ -64,9 +62,9 @@ summary_weighty s e x pos = record { adds = (λ a v h b. merge_weight_lem s a e 
 -- ---- in its leaf, before any split
 
 -- searched for, or begun whatever is near
-unfoldable pub found : Item → Bool → ℕ → Tree → Nearest
+unfoldable pub found : Item → Bool → ℕ → Tree → Option ℕ
 found i true l t = searched (λ e. i.near (entry_at t e)) (node_at t l).list
-found i false l t = Nothing
+found i false l t = None
 
 abbrev pub item_placed : Item → Bool → ℕ → Tree → Tree
 item_placed i b l t = absorbed_or_begun i l (found i b l (along_path i.taken l t)) (along_path i.taken l t)
@@ -82,7 +80,7 @@ found-hit i false l u = tt
 module _ {s : Settings} (i : Item) (ok : Weighty i) where
   -- into a settled tree, whatever the search finds
   module _ {t : Tree} {R : ℕ → ℕ} {old : ℕ} (g : Settled s t R old) (n : Counted t old) (b : old + i.rows ≤ most) where
-    pub join : (l : ℕ) → l < length t.nodes → (node_at t l).leaf ≡ true → (r : Nearest)
+    pub join : (l : ℕ) → l < length t.nodes → (node_at t l).leaf ≡ true → (r : Option ℕ)
         → Hit (λ e. 0 < occurs e (node_at (along_path i.taken l t) l).list) r
         → Placed s (absorbed_or_begun i l r (along_path i.taken l t)) R l (old + i.rows)
     unfolding absorbed_or_begun absorbed
@@ -103,10 +101,10 @@ module _ {s : Settings} (i : Item) (ok : Weighty i) where
         new : Placed s (begun l i.alone (along_path i.taken l t)) R l (old + i.rows)
         new = put-new old p hu fu nu i.alone ok.exact ok.some
 
-        go : (r : Nearest) → Hit (λ e. 0 < occurs e (node_at (along_path i.taken l t) l).list) r
+        go : (r : Option ℕ) → Hit (λ e. 0 < occurs e (node_at (along_path i.taken l t) l).list) r
             → Placed s (absorbed_or_begun i l r (along_path i.taken l t)) R l (old + i.rows)
-        go Nothing a = new
-        go (Entry e) a = pick (absorbs i e (along_path i.taken l t))
+        go None a = new
+        go (Some e) a = pick (absorbs i e (along_path i.taken l t))
           where
             pick : (q : Bool) → Placed s (cond q (absorbed i e (along_path i.taken l t)) (begun l i.alone (along_path i.taken l t))) R l (old + i.rows)
             pick true = put-fed old p hu fu nu i.taken e ok.adds a
@@ -160,10 +158,10 @@ replaced_holds s e t total c k x pos b =
 -- ---- one entry more at most
 
 module _ (i : Item) where
-  placed_more : (l : ℕ) (r : Nearest) (u : Tree) → length (absorbed_or_begun i l r u).entries ≤ suc (length u.entries)
+  placed_more : (l : ℕ) (r : Option ℕ) (u : Tree) → length (absorbed_or_begun i l r u).entries ≤ suc (length u.entries)
   unfolding absorbed_or_begun absorbed begun with_entries with_nodes
-  placed_more l Nothing u = let a = snoc-length u.entries i.alone in omega arith
-  placed_more l (Entry e) u = go (absorbs i e u)
+  placed_more l None u = let a = snoc-length u.entries i.alone in omega arith
+  placed_more l (Some e) u = go (absorbs i e u)
     where
       go : (b : Bool) → length (cond b (absorbed i e u) (begun l i.alone u)).entries ≤ suc (length u.entries)
       go true = let a = length-change i.taken e u.entries in omega arith

@@ -1,9 +1,8 @@
 -- An entry more, last in a leaf: the links.
-use Rattle.std.specs.Prelude.{ℕ, suc, ◌+◌, ◌<◌, ◌≡◌, ◌⊎◌, ◌≢◌, true, false}
+use Rattle.std.specs.Prelude.{ℕ, suc, ◌+◌, ◌<◌, ◌≡◌, ◌⊎◌, ◌≢◌, true, false, Some}
 use Rattle.std.proofs.Common.{sym, ◌∙◌, subst, inl, inr, arith}
 use Rattle.std.proofs.Math.Path.{ap}
 use Rattle.std.proofs.Math.Bool.{cond}
-use Rattle.std.proofs.Math.Option.{some}
 use Rattle.head.specs.declared.Settings.{Settings}
 use Rattle.rules.specs.Lists.{occurs}
 use Rattle.rules.specs.Tree.{Node}
@@ -19,7 +18,7 @@ module _ {s : Settings} {A B : ℕ → Node} {n root es : ℕ} {R : ℕ → ℕ}
   not_l : (k : ℕ) → (B k).leaf ≡ false → k ≢ l
   not_l k q e = not_both (A l).leaf f (ap (λ z. (A z).leaf) (sym e) ∙ sym (b.leaf_o k) ∙ q)
 
-  new_kid : (k c : ℕ) → k < n → (B k).leaf ≡ false → 0 < occurs c (B k).list → ((B c).parent ≡ some k) × (R k ≡ suc (R c))
+  new_kid : (k c : ℕ) → k < n → (B k).leaf ≡ false → 0 < occurs c (B k).list → ((B c).parent ≡ Some k) × (R k ≡ suc (R c))
   new_kid k c q u o =
       let r = g.kid k c q (sym (b.leaf_o k) ∙ u) (subst (λ z. 0 < occurs c z) (b.kids_o k (not_l k u)) o) in
       (b.parent_o c ∙ r.0, r.1)

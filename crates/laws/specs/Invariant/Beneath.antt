@@ -1,10 +1,9 @@
 -- Sums over a whole tree: over all lists, and over the nodes beneath one.
 use Prim.Native.Nat.{ℕ, zero, suc, ◌+◌, ◌*◌, ◌≤◌, ◌<◌}
-use Rattle.std.specs.Prelude.{◌≡◌, ◌⊎◌, ◌≢◌, Bool, true, not, cond, T, ltb}
+use Rattle.std.specs.Prelude.{◌≡◌, ◌⊎◌, ◌≢◌, Bool, true, not, cond, T, ltb, Some}
 use Rattle.std.proofs.Math.Path.{refl, ap}
 use Rattle.std.proofs.Common.{sym, ◌∙◌, inl, inr, zero-mul, one-mul, ltb→lt, nltb→le}
 use Rattle.std.proofs.Math.Bool.{false}
-use Rattle.std.proofs.Math.Option.{some}
 use native.Mathlib.Omega.{arith}
 use Rattle.head.specs.declared.Settings.{Settings}
 use Rattle.rules.specs.Tree.{Node}
@@ -19,7 +18,7 @@ use Rattle.counting.specs.Totals.{sum_plus, sum-only, over-sum, sum-times}
 -- the links without caps, filling and growth
 pub record Frame (A : ℕ → Node) (n root es : ℕ) (R : ℕ → ℕ) : Type 0 where
   pub root_in : root < n
-  pub kid : (i c : ℕ) → i < n → (A i).leaf ≡ false → 0 < occurs c (A i).list → ((A c).parent ≡ some i) × (R i ≡ suc (R c))
+  pub kid : (i c : ℕ) → i < n → (A i).leaf ≡ false → 0 < occurs c (A i).list → ((A c).parent ≡ Some i) × (R i ≡ suc (R c))
   pub grounded : (i : ℕ) → i < n → (A i).leaf ≡ true → R i ≡ 0
   pub nodes_once : (c : ℕ) → is c root + sum_to (λ i. inner (A i) c) n ≡ below c n
   pub entries_once : (c : ℕ) → sum_to (λ i. held (A i) c) n ≡ below c es

@@ -1,8 +1,8 @@
 -- The links of a tree as a local law with a rank for each node. The nodes are seen as a function from numbers.
-use Rattle.std.specs.Prelude.{ℕ, suc, ◌+◌, ◌-◌, ◌≤◌, ◌<◌, ◌≡◌, ◌⊎◌, ◌≢◌, Bool, true, false, cond, eqb, length}
+use Rattle.std.specs.Prelude.{ℕ, suc, ◌+◌, ◌-◌, ◌≤◌, ◌<◌, ◌≡◌, ◌⊎◌, ◌≢◌, Bool, true, false, cond, eqb, length, None, Some}
+use Rattle.std.proofs.lemmas.Option.{none-some, same_Some}
 use Rattle.std.proofs.Math.Path.{refl}
 use Rattle.std.proofs.Common.{sym, ap, ◌∙◌, subst, inl, inr, true≢false}
-use Rattle.std.proofs.Math.Option.{none, some, some-injective, none-ne-some}
 use native.Mathlib.Omega.{arith}
 use Rattle.head.specs.declared.Settings.{Settings}
 use Rattle.rules.specs.Tree.{Node, cap}
@@ -24,8 +24,8 @@ rank_count R n r = sum_to (λ k. is r (R k)) n
 -- A: the nodes, n of them; es entries; R: the ranks. More than its cap by x at a node; less growth by y at a rank; o: nodes that no list names yet
 pub record Links (s : Settings) (A : ℕ → Node) (n root es : ℕ) (R : ℕ → ℕ) (x y o : ℕ → ℕ) : Type 0 where
   pub root_in : root < n
-  pub root_top : (A root).parent ≡ none
-  pub kid : (i c : ℕ) → i < n → (A i).leaf ≡ false → 0 < occurs c (A i).list → ((A c).parent ≡ some i) × (R i ≡ suc (R c))
+  pub root_top : (A root).parent ≡ None
+  pub kid : (i c : ℕ) → i < n → (A i).leaf ≡ false → 0 < occurs c (A i).list → ((A c).parent ≡ Some i) × (R i ≡ suc (R c))
   pub grounded : (i : ℕ) → i < n → (A i).leaf ≡ true → R i ≡ 0
   pub nodes_once : (c : ℕ) → is c root + o c + sum_to (λ i. inner (A i) c) n ≡ below c n
   pub entries_once : (c : ℕ) → sum_to (λ i. held (A i) c) n ≡ below c es
@@ -96,11 +96,11 @@ module _ {s : Settings} {A : ℕ → Node} {n root es : ℕ} {R x y o : ℕ → 
       go i l h (inr e) = let q = inner_yes (A i) c e in (e, (kid_in i c l e (omega arith)).1)
 
   -- a node that names a parent is in its list
-  pub parent_lists : (c p : ℕ) → c < n → o c ≡ 0 → (A c).parent ≡ some p → (p < n) × ((A p).leaf ≡ false) × (occurs c (A p).list ≡ 1) × (R p ≡ suc (R c))
+  pub parent_lists : (c p : ℕ) → c < n → o c ≡ 0 → (A c).parent ≡ Some p → (p < n) × ((A p).leaf ≡ false) × (occurs c (A p).list ≡ 1) × (R p ≡ suc (R c))
   parent_lists c p l z e =
-      let r = lister c l (λ q. none-ne-some p (sym g.root_top ∙ ap (λ k. (A k).parent) (sym q) ∙ e)) z in
+      let r = lister c l (λ q. none-some p (sym g.root_top ∙ ap (λ k. (A k).parent) (sym q) ∙ e)) z in
       let k = g.kid r.0 c r.1 r.2 (let q = r.3 in omega arith) in
-      let ip : r.0 ≡ p = some-injective r.0 p (sym k.0 ∙ e) in (
+      let ip : r.0 ≡ p = same_Some r.0 p (sym k.0 ∙ e) in (
         subst (λ j. j < n) ip r.1,
         subst (λ j. (A j).leaf ≡ false) ip r.2,
         subst (λ j. occurs c (A j).list ≡ 1) ip r.3,
@@ -108,7 +108,7 @@ module _ {s : Settings} {A : ℕ → Node} {n root es : ℕ} {R x y o : ℕ → 
             ip k.1,
       )
 
-  pub no_parent_lem : (c : ℕ) → c < n → o c ≡ 0 → (A c).parent ≡ none → c ≡ root
+  pub no_parent_lem : (c : ℕ) → c < n → o c ≡ 0 → (A c).parent ≡ None → c ≡ root
   no_parent_lem c l z e = go (same? c root)
     where
       go : (c ≡ root) ⊎ (c ≢ root) → c ≡ root
@@ -116,7 +116,7 @@ module _ {s : Settings} {A : ℕ → Node} {n root es : ℕ} {R x y o : ℕ → 
       go (inr q) =
           let r = lister c l q z in
           let k = g.kid r.0 c r.1 r.2 (let q = r.3 in omega arith) in
-          absurd (none-ne-some r.0 (sym e ∙ k.0))
+          absurd (none-some r.0 (sym e ∙ k.0))
 
   pub rank_some : (c : ℕ) → c < n → 0 < rank_count R n (R c)
   unfolding rank_count

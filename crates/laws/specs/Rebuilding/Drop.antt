@@ -1,10 +1,9 @@
 -- Dropping the entries that were merged away.
-use Rattle.std.specs.Prelude.{ℕ, suc, ◌+◌, ◌≤◌, ◌<◌, ◌≡◌, ◌⊎◌, Bool, true, false, length, get_or}
+use Rattle.std.specs.Prelude.{ℕ, suc, ◌+◌, ◌≤◌, ◌<◌, ◌≡◌, ◌⊎◌, Bool, true, false, length, get_or, Some}
 use Rattle.std.proofs.Math.Path.{refl, ap}
 use Rattle.std.proofs.Common.{sym, ◌∙◌, subst, inl, inr, arith}
 use Rattle.std.proofs.Math.Bool.{cond}
 use mathlib.Core.List.{List, [], ◌∷◌, filter_map}
-use Rattle.std.proofs.Math.Option.{some}
 use Rattle.std.proofs.lemmas.List.{length-map}
 use Rattle.std.proofs.Math.ListN.{get_or-map}
 use Rattle.binary64.specs.Whole.{most}
@@ -112,7 +111,7 @@ module _ {s : Settings} (u : Tree) (bs : List Bool) {R : ℕ → ℕ} (total : �
   fr = frame-of s (node_at u) (length u.nodes) u.root (length u.entries) R nil nil g
 
   kid' : (i c : ℕ) → i < length u.nodes → (node_at (dropped bs u) i).leaf ≡ false → 0 < occurs c (node_at (dropped bs u) i).list
-      → ((node_at (dropped bs u) c).parent ≡ some i) × (R i ≡ suc (R c))
+      → ((node_at (dropped bs u) c).parent ≡ Some i) × (R i ≡ suc (R c))
   kid' i c l f o =
       let f' : (node_at u i).leaf ≡ false = sym (leaf-is i) ∙ f in
       let r = g.kid i c l f' (subst (λ z. 0 < occurs c z) (kids-inner i f') o) in

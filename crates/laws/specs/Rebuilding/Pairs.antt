@@ -1,7 +1,6 @@
 -- The pairs of a rebuild: two different entries of one leaf, or of cousins; and there is one where there are two entries.
-use Rattle.std.specs.Prelude.{ℕ, zero, suc, ◌+◌, ◌≤◌, ◌<◌, ◌≡◌, refl, ◌⊎◌, ◌≢◌, Bool, true, false, ◌&&◌, not, cond, List, [], ◌∷◌, ◌++◌, T, eqb, ltb, length, get_or, Float}
+use Rattle.std.specs.Prelude.{ℕ, zero, suc, ◌+◌, ◌≤◌, ◌<◌, ◌≡◌, refl, ◌⊎◌, ◌≢◌, Bool, true, false, ◌&&◌, not, cond, List, [], ◌∷◌, ◌++◌, T, eqb, ltb, length, get_or, Float, Option, None, Some}
 use Rattle.std.proofs.Common.{sym, ap, ◌∙◌, subst, inl, inr, not-suc-le-zero, arith, nltb→le, length-append}
-use Rattle.std.proofs.Math.Option.{Option, none, some}
 use Rattle.std.specs.Float.Ieee.{lt}
 use Rattle.head.specs.declared.Settings.{Settings}
 use Rattle.rules.specs.Tree.{Node, Tree, node_at, blank_node}
@@ -51,13 +50,13 @@ sorted-length (p ∷ ps) = in_length p (sorted ps) ∙ ap suc (sorted-length ps)
 -- ---- a partner is in the group, and is another
 
 abbrev Has : (ℕ → Type 0) → Option Best → Type 0
-Has P none = Unit
-Has P (some (best j c)) = P j
+Has P None = Unit
+Has P (Some (best j c)) = P j
 
 cheaper_has : (P : ℕ → Type 0) (b : Option Best) (j : ℕ) (c : Float) → Has P b → P j → Has P (cheaper b j c)
 unfolding cheaper closer
-cheaper_has P none j c x y = y
-cheaper_has P (some (best k d)) j c x y = either (λ u. Has P (some u)) (lt c d) (best j c) (best k d) y x
+cheaper_has P None j c x y = y
+cheaper_has P (Some (best k d)) j c x y = either (λ u. Has P (Some u)) (lt c d) (best j c) (best k d) y x
 
 partner_has : (P : ℕ → Type 0) (f : ℕ → Float) (i : ℕ) (b : Option Best) (js : List ℕ) → ((j : ℕ) → 0 < occurs j js → j ≢ i → P j) → Has P b
     → Has P (partner f i b js)
@@ -83,57 +82,57 @@ Of g p = (0 < occurs p.one g) × (0 < occurs p.two g) × (p.one ≢ p.two)
 
 pair_has : (g : List ℕ) (i : ℕ) (b : Option Best) → 0 < occurs i g → Has (λ j. (0 < occurs j g) × (j ≢ i)) b → Every (Of g) (pair_of i b)
 unfolding pair_of
-pair_has g i none o h = tt
-pair_has g i (some (best j c)) o h = ((o, h.0, (λ e. h.1 (sym e))), tt)
+pair_has g i None o h = tt
+pair_has g i (Some (best j c)) o h = ((o, h.0, (λ e. h.1 (sym e))), tt)
 
 pub partners-of : (s : Settings) (t : Tree) (g is' : List ℕ) → ((c : ℕ) → 0 < occurs c is' → 0 < occurs c g) → Every (Of g) (partners s t g is')
 unfolding partners
 partners-of s t g [] h = tt
 partners-of s t g (i ∷ js) h =
-    every_append (Of g) (pair_of i (partner (cost_of s t i) i none g)) (partners s t g js)
-    (pair_has g i (partner (cost_of s t i) i none g) (h i (occurs_here i js)) (partner_has (λ j. (0 < occurs j g) × (j ≢ i)) (cost_of s t i) i none g
+    every_append (Of g) (pair_of i (partner (cost_of s t i) i None g)) (partners s t g js)
+    (pair_has g i (partner (cost_of s t i) i None g) (h i (occurs_here i js)) (partner_has (λ j. (0 < occurs j g) × (j ≢ i)) (cost_of s t i) i None g
     (λ j o d. (o, d)) tt))
     (partners-of s t g js (λ c o. h c (occurs_later c i js o)))
 
 -- ---- there is a partner where there is another
 
-abbrev Some : Option Best → Type 0
-Some none = ⊥
-Some (some b) = Unit
+abbrev Named : Option Best → Type 0
+Named None = ⊥
+Named (Some b) = Unit
 
-partner-stays : (f : ℕ → Float) (i : ℕ) (b : Option Best) (js : List ℕ) → Some b → Some (partner f i b js)
+partner-stays : (f : ℕ → Float) (i : ℕ) (b : Option Best) (js : List ℕ) → Named b → Named (partner f i b js)
 unfolding partner cheaper
 partner-stays f i b [] h = h
-partner-stays f i none (j ∷ js) h = absurd h
-partner-stays f i (some b) (j ∷ js) h = go (eqb j i) (partner-stays f i (some b) js tt) (partner-stays f i (some (closer b j (f j))) js tt)
+partner-stays f i None (j ∷ js) h = absurd h
+partner-stays f i (Some b) (j ∷ js) h = go (eqb j i) (partner-stays f i (Some b) js tt) (partner-stays f i (Some (closer b j (f j))) js tt)
   where
-    go : (q : Bool) → Some (partner f i (some b) js) → Some (partner f i (some (closer b j (f j))) js)
-        → Some (elim q [ true ↦ partner f i (some b) js | false ↦ partner f i (some (closer b j (f j))) js ])
+    go : (q : Bool) → Named (partner f i (Some b) js) → Named (partner f i (Some (closer b j (f j))) js)
+        → Named (elim q [ true ↦ partner f i (Some b) js | false ↦ partner f i (Some (closer b j (f j))) js ])
     go true x y = x
     go false x y = y
 
-partner-some : (f : ℕ → Float) (i y : ℕ) (js : List ℕ) → y ≢ i → 0 < occurs y js → Some (partner f i none js)
+partner-some : (f : ℕ → Float) (i y : ℕ) (js : List ℕ) → y ≢ i → 0 < occurs y js → Named (partner f i None js)
 unfolding partner cheaper occurs
 partner-some f i y [] d o = absurd (not-suc-le-zero o)
-partner-some f i y (j ∷ js) d o = go (eqb j i) refl (λ q. partner-some f i y js d q) (partner-stays f i (some (best j (f j))) js tt)
+partner-some f i y (j ∷ js) d o = go (eqb j i) refl (λ q. partner-some f i y js d q) (partner-stays f i (Some (best j (f j))) js tt)
   where
-    go : (q : Bool) → eqb j i ≡ q → (0 < occurs y js → Some (partner f i none js)) → Some (partner f i (some (best j (f j))) js)
-        → Some (elim q [ true ↦ partner f i none js | false ↦ partner f i (some (best j (f j))) js ])
+    go : (q : Bool) → eqb j i ≡ q → (0 < occurs y js → Named (partner f i None js)) → Named (partner f i (Some (best j (f j))) js)
+        → Named (elim q [ true ↦ partner f i None js | false ↦ partner f i (Some (best j (f j))) js ])
     go false e x z = z
     go true e x z =
         x (let p : occurs y (j ∷ js) ≡ is y j + occurs y js = occurs-cons y j js in let r = is_other y j (λ w. d (w ∙ (eq_test j i true e).0 refl)) in
         omega arith)
 
-pair-some : (i : ℕ) (b : Option Best) → Some b → 0 < length (pair_of i b)
+pair-some : (i : ℕ) (b : Option Best) → Named b → 0 < length (pair_of i b)
 unfolding pair_of
-pair-some i none h = absurd h
-pair-some i (some (best j c)) h = omega arith
+pair-some i None h = absurd h
+pair-some i (Some (best j c)) h = omega arith
 
 partners-some : (s : Settings) (t : Tree) (x y : ℕ) (r : List ℕ) → y ≢ x → 0 < occurs y r → 0 < length (partners s t (x ∷ r) (x ∷ r))
 unfolding partners
 partners-some s t x y r d o =
-    let a = pair-some x (partner (cost_of s t x) x none (x ∷ r)) (partner-some (cost_of s t x) x y (x ∷ r) d (let p = occurs-cons y x r in omega arith)) in
-    let b = length-append (pair_of x (partner (cost_of s t x) x none (x ∷ r))) (partners s t (x ∷ r) r) in
+    let a = pair-some x (partner (cost_of s t x) x None (x ∷ r)) (partner-some (cost_of s t x) x y (x ∷ r) d (let p = occurs-cons y x r in omega arith)) in
+    let b = length-append (pair_of x (partner (cost_of s t x) x None (x ∷ r))) (partners s t (x ∷ r) r) in
     omega arith
 
 -- a group with two different members

@@ -1,8 +1,7 @@
 -- N = (M+1)(M+2)/2 nodes and M + 1 entries suffice at every moment, and no list is over its cap by more than the spare place.
-use Rattle.std.specs.Prelude.{ℕ, zero, suc, ◌+◌, ◌*◌, ◌/◌, ◌≤◌, ◌<◌, ◌≡◌, Bool, true, false, not, T, length}
+use Rattle.std.specs.Prelude.{ℕ, zero, suc, ◌+◌, ◌*◌, ◌/◌, ◌≤◌, ◌<◌, ◌≡◌, Bool, true, false, not, T, length, Option, None, Some}
 use Rattle.std.proofs.Math.Path.{refl}
 use Rattle.std.proofs.Common.{sym, ap, ◌∙◌, subst, mul-le-mul, arith}
-use Rattle.std.proofs.Math.Option.{Option, none, some}
 use Rattle.std.proofs.Math.Dec.{nleb→lt}
 use Rattle.head.specs.declared.Settings.{Settings}
 use Rattle.head.specs.Sizes.{node_cap, entry_cap}
@@ -80,8 +79,8 @@ links_roomy {s} t g e f one h =
 pub data Splitting (s : Settings) : ℕ → Tree → Tree → Type 0 where
   here : {i : ℕ} {t : Tree} → Splitting s i t t
   halved : {i : ℕ} {t : Tree} → fitting s t i ≡ false → Splitting s i t (split s i t)
-  crowns : {i : ℕ} {t : Tree} → fitting s t i ≡ false → (node_at t i).parent ≡ none → Splitting s i t (crowned s i (length t.nodes) (split s i t))
-  listed : {i : ℕ} {t u : Tree} (p : ℕ) → fitting s t i ≡ false → (node_at t i).parent ≡ some p → Splitting s p (extended p (length t.nodes) (split s i t)) u
+  crowns : {i : ℕ} {t : Tree} → fitting s t i ≡ false → (node_at t i).parent ≡ None → Splitting s i t (crowned s i (length t.nodes) (split s i t))
+  listed : {i : ℕ} {t u : Tree} (p : ℕ) → fitting s t i ≡ false → (node_at t i).parent ≡ Some p → Splitting s p (extended p (length t.nodes) (split s i t)) u
       → Splitting s i t u
 
 -- the last of them is the rule's
@@ -92,8 +91,8 @@ splitting_end s (suc k) i t = go (fitting s t i) refl (λ p u. splitting_end s k
   where
     next : (o : Option ℕ) → (node_at t i).parent ≡ o → fitting s t i ≡ false → ((p : ℕ) (u : Tree) → Splitting s p u (split_up s k p u))
         → Splitting s i t (split_next s (λ p u. split_up s k p u) i (length t.nodes) o (split s i t))
-    next none e f ih = crowns f e
-    next (some p) e f ih = listed p f e (ih p (extended p (length t.nodes) (split s i t)))
+    next None e f ih = crowns f e
+    next (Some p) e f ih = listed p f e (ih p (extended p (length t.nodes) (split s i t)))
 
     go : (b : Bool) → fitting s t i ≡ b → ((p : ℕ) (u : Tree) → Splitting s p u (split_up s k p u)) → Splitting s i t (split_if s (λ p u. split_up s k p u) i b t)
     go true e ih = here

@@ -1,11 +1,10 @@
 -- A new root lists both halves: the links.
 use Prim.Native.Nat.{ℕ, suc, ◌+◌, ◌-◌, ◌≤◌, ◌<◌}
-use Rattle.std.specs.Prelude.{◌≡◌, ◌⊎◌, ◌≢◌, true, false, length}
+use Rattle.std.specs.Prelude.{◌≡◌, ◌⊎◌, ◌≢◌, true, false, length, None, Some}
 use Rattle.std.proofs.Common.{sym, ◌∙◌, inl, inr}
 use Rattle.std.proofs.Math.Path.{ap}
 use Rattle.std.proofs.Math.Bool.{cond}
 use mathlib.Core.List.{[], ◌∷◌}
-use Rattle.std.proofs.Math.Option.{none, some}
 use Rattle.std.proofs.Math.Nat.{suc_inj}
 use native.Mathlib.Omega.{arith}
 use Rattle.head.specs.declared.Settings.{Settings}
@@ -21,11 +20,11 @@ use Rattle.laws.specs.Invariant.Links.{Links, inner, held, inner_yes, held_no, n
 pub record Crowned (A B : ℕ → Node) (i j n : ℕ) : Type 0 where
   pub kids_n : (B n).list ≡ i ∷ j ∷ []
   pub leaf_n : (B n).leaf ≡ false
-  pub parent_n : (B n).parent ≡ none
+  pub parent_n : (B n).parent ≡ None
   pub kids_o : (k : ℕ) → k ≢ n → (B k).list ≡ (A k).list
   pub leaf_o : (k : ℕ) → k ≢ n → (B k).leaf ≡ (A k).leaf
-  pub parent_i : (B i).parent ≡ some n
-  pub parent_j : (B j).parent ≡ some n
+  pub parent_i : (B i).parent ≡ Some n
+  pub parent_j : (B j).parent ≡ Some n
   pub parent_o : (k : ℕ) → k ≢ n → k ≢ i → k ≢ j → (B k).parent ≡ (A k).parent
 
 module _ {s : Settings} {A B : ℕ → Node} {n i es : ℕ} {R : ℕ → ℕ} {j : ℕ} (g : Links s A n i es R nil (is (suc (R i))) (is j)) (b : Crowned A B i j n)
@@ -45,16 +44,16 @@ module _ {s : Settings} {A B : ℕ → Node} {n i es : ℕ} {R : ℕ → ℕ} {j
   occurs_two c = let a = occurs-cons c i (j ∷ []) in let d : occurs c (j ∷ []) ≡ is c j + 0 = occurs-cons c j [] in omega arith
 
   crown_kid : (k c : ℕ) → k < suc n → (B k).leaf ≡ false → 0 < occurs c (B k).list
-      → ((B c).parent ≡ some k) × (put R n (suc (R i)) k ≡ suc (put R n (suc (R i)) c))
+      → ((B c).parent ≡ Some k) × (put R n (suc (R i)) k ≡ suc (put R n (suc (R i)) c))
   crown_kid k c h f o = go (spot k h) (same? c i) (same? c j)
     where
-      go : (k ≡ n) ⊎ (k < n) → (c ≡ i) ⊎ (c ≢ i) → (c ≡ j) ⊎ (c ≢ j) → ((B c).parent ≡ some k) × (put R n (suc (R i)) k ≡ suc (put R n (suc (R i)) c))
+      go : (k ≡ n) ⊎ (k < n) → (c ≡ i) ⊎ (c ≢ i) → (c ≡ j) ⊎ (c ≢ j) → ((B c).parent ≡ Some k) × (put R n (suc (R i)) k ≡ suc (put R n (suc (R i)) c))
       go (inl e) (inl d) m = (
-        ap (λ z. (B z).parent) d ∙ b.parent_i ∙ ap (λ z. some z) (sym e),
+        ap (λ z. (B z).parent) d ∙ b.parent_i ∙ ap (λ z. Some z) (sym e),
         ap (λ z. put R n (suc (R i)) z) e ∙ put-at R n (suc (R i)) ∙ ap suc (sym (rank_of i g.root_in) ∙ ap (λ z. put R n (suc (R i)) z) (sym d)),
       )
       go (inl e) (inr d) (inl m) = (
-        ap (λ z. (B z).parent) m ∙ b.parent_j ∙ ap (λ z. some z) (sym e),
+        ap (λ z. (B z).parent) m ∙ b.parent_j ∙ ap (λ z. Some z) (sym e),
         ap (λ z. put R n (suc (R i)) z) e ∙ put-at R n (suc (R i)) ∙ ap suc (sym rj ∙ sym (rank_of j lj) ∙ ap (λ z. put R n (suc (R i)) z) (sym m)),
       )
       go (inl e) (inr d) (inr m) =

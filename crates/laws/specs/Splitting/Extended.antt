@@ -1,9 +1,8 @@
 -- One more node in a list, and a new root, node by node.
 use Prim.Native.Nat.{ℕ, suc, ◌<◌}
-use Rattle.std.specs.Prelude.{◌≡◌, refl, ◌⊎◌, ◌≢◌, false, List, [], ◌∷◌}
+use Rattle.std.specs.Prelude.{◌≡◌, refl, ◌⊎◌, ◌≢◌, false, List, [], ◌∷◌, None, Some}
 use Rattle.std.proofs.Common.{sym, ◌∙◌, subst, inl, inr}
 use Rattle.std.proofs.Math.Path.{ap}
-use Rattle.std.proofs.Math.Option.{none, some}
 use native.Mathlib.Omega.{arith}
 use Rattle.std.proofs.Math.ListN.{length, get_or}
 use Rattle.head.specs.declared.Settings.{Settings}
@@ -48,7 +47,7 @@ module _ (s : Settings) (t : Tree) (i j : ℕ) (li : i < length t.nodes) (lj : j
       length-change (under (length t.nodes)) j (change_at (under (length t.nodes)) i t.nodes) ∙ length-change (under (length t.nodes)) i t.nodes
 
   abbrev pub top_node : Node
-  top_node = record { summary = gathered s t false (i ∷ j ∷ []); list = i ∷ j ∷ []; leaf = false; parent = none }
+  top_node = record { summary = gathered s t false (i ∷ j ∷ []); list = i ∷ j ∷ []; leaf = false; parent = None }
 
   pub crowned-length : length (crowned s i j t).nodes ≡ suc (length t.nodes)
   unfolding crowned with_root with_nodes
@@ -76,17 +75,17 @@ module _ (s : Settings) (t : Tree) (i j : ℕ) (li : i < length t.nodes) (lj : j
       change_off (under (length t.nodes)) j k blank_node (change_at (under (length t.nodes)) i t.nodes) e
       ∙ change_off (under (length t.nodes)) i k blank_node t.nodes d
 
-  told_j : (get_or told j blank_node).parent ≡ some (length t.nodes)
+  told_j : (get_or told j blank_node).parent ≡ Some (length t.nodes)
   unfolding under
   told_j =
       ap (λ m. m.parent) (change-at (under (length t.nodes)) j blank_node (change_at (under (length t.nodes)) i t.nodes)
       (subst (λ z. j < z) (sym (length-change (under (length t.nodes)) i t.nodes)) lj))
 
-  told_i : (get_or told i blank_node).parent ≡ some (length t.nodes)
+  told_i : (get_or told i blank_node).parent ≡ Some (length t.nodes)
   unfolding under
   told_i = go (same? i j)
     where
-      go : (i ≡ j) ⊎ (i ≢ j) → (get_or told i blank_node).parent ≡ some (length t.nodes)
+      go : (i ≡ j) ⊎ (i ≢ j) → (get_or told i blank_node).parent ≡ Some (length t.nodes)
       go (inl e) = ap (λ z. (get_or told z blank_node).parent) e ∙ told_j
       go (inr e) =
           ap (λ m. m.parent) (change_off (under (length t.nodes)) j i blank_node (change_at (under (length t.nodes)) i t.nodes) e)

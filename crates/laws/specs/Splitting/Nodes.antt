@@ -1,12 +1,11 @@
 -- A split and its two endings, node by node: what each leaves at every number.
 use Prim.Native.Nat.{ℕ, zero, suc, ◌+◌, ◌<◌}
-use Rattle.std.specs.Prelude.{◌≡◌, ◌⊎◌, ◌≢◌, Bool, length, get_or, set}
+use Rattle.std.specs.Prelude.{◌≡◌, ◌⊎◌, ◌≢◌, Bool, length, get_or, set, Some}
 use Rattle.std.proofs.Math.Path.{refl, ap}
 use Rattle.std.proofs.Common.{sym, ◌∙◌, subst, inl, inr, not-suc-le-zero, get_or-set_same}
 use Rattle.std.proofs.Math.Bool.{true, false}
 use Rattle.std.proofs.lemmas.Bool.{false≢true}
 use mathlib.Core.List.{List, [], ◌∷◌}
-use Rattle.std.proofs.Math.Option.{some}
 use native.Mathlib.Omega.{arith}
 use Rattle.std.proofs.Math.ListN.{length-set}
 use Rattle.std.proofs.Math.Seq.{get_or-set_other}
@@ -36,31 +35,31 @@ module _ (p : ℕ) (d : Node) where
   adopted-length false [] ns = refl
   adopted-length false (x ∷ ks) ns = adopted-length false ks (change_at (under p) x ns) ∙ length-change (under p) x ns
 
-  adopted_stay : (ks : List ℕ) (ns : List Node) (k : ℕ) → (get_or ns k d).parent ≡ some p → (get_or (adopted false p ks ns) k d).parent ≡ some p
+  adopted_stay : (ks : List ℕ) (ns : List Node) (k : ℕ) → (get_or ns k d).parent ≡ Some p → (get_or (adopted false p ks ns) k d).parent ≡ Some p
   unfolding adopted under change_at
   adopted_stay [] ns k h = h
   adopted_stay (x ∷ ks) ns k h = adopted_stay ks (change_at (under p) x ns) k (go (same? k x))
     where
-      go : (k ≡ x) ⊎ (k ≢ x) → (get_or (change_at (under p) x ns) k d).parent ≡ some p
+      go : (k ≡ x) ⊎ (k ≢ x) → (get_or (change_at (under p) x ns) k d).parent ≡ Some p
       go (inr q) = ap (λ m. m.parent) (change_off (under p) x k d ns q) ∙ h
       go (inl q) = end ns x k h
         where
-          end : (ns : List Node) (x k : ℕ) → (get_or ns k d).parent ≡ some p → (get_or (change_at (under p) x ns) k d).parent ≡ some p
+          end : (ns : List Node) (x k : ℕ) → (get_or ns k d).parent ≡ Some p → (get_or (change_at (under p) x ns) k d).parent ≡ Some p
           end [] x k h = h
           end (m ∷ ns) zero zero h = refl
           end (m ∷ ns) zero (suc k) h = h
           end (m ∷ ns) (suc x) zero h = h
           end (m ∷ ns) (suc x) (suc k) h = end ns x k h
 
-  pub adopted_in : (ks : List ℕ) (ns : List Node) (k : ℕ) → k < length ns → 0 < occurs k ks → (get_or (adopted false p ks ns) k d).parent ≡ some p
+  pub adopted_in : (ks : List ℕ) (ns : List Node) (k : ℕ) → k < length ns → 0 < occurs k ks → (get_or (adopted false p ks ns) k d).parent ≡ Some p
   unfolding adopted occurs under
   adopted_in [] ns k l h = absurd (not-suc-le-zero h)
   adopted_in (x ∷ ks) ns k l h = go (same? k x) (λ o. adopted_in ks (change_at (under p) x ns) k (subst (λ z. k < z) (sym (length-change (under p) x ns)) l) o)
     where
-      go : (k ≡ x) ⊎ (k ≢ x) → (0 < occurs k ks → (get_or (adopted false p ks (change_at (under p) x ns)) k d).parent ≡ some p)
-          → (get_or (adopted false p ks (change_at (under p) x ns)) k d).parent ≡ some p
+      go : (k ≡ x) ⊎ (k ≢ x) → (0 < occurs k ks → (get_or (adopted false p ks (change_at (under p) x ns)) k d).parent ≡ Some p)
+          → (get_or (adopted false p ks (change_at (under p) x ns)) k d).parent ≡ Some p
       go (inl e) ih =
-          adopted_stay ks (change_at (under p) x ns) k (subst (λ z. (get_or (change_at (under p) z ns) k d).parent ≡ some p) e
+          adopted_stay ks (change_at (under p) x ns) k (subst (λ z. (get_or (change_at (under p) z ns) k d).parent ≡ Some p) e
           (ap (λ m. m.parent) (change-at (under p) k d ns l)))
       go (inr e) ih =
           let a : occurs k (x ∷ ks) ≡ is k x + occurs k ks = occurs-cons k x ks in
@@ -176,7 +175,7 @@ module _ (s : Settings) (t : Tree) (i : ℕ) (l : i < length t.nodes) where
     parent_n' = ap (λ m. m.parent) (adopted_out (length t.nodes) blank_node (node_at t i).leaf (move_list s t i) bare (length t.nodes) new ∙ bare_n)
 
     parent_moved' : (k : ℕ) → k < length t.nodes → (node_at t i).leaf ≡ false → 0 < occurs k (move_list s t i)
-        → (node_at (split s i t) k).parent ≡ some (length t.nodes)
+        → (node_at (split s i t) k).parent ≡ Some (length t.nodes)
     unfolding split parted with_nodes node_at
     parent_moved' k h f o =
         ap (λ b. (get_or (adopted b (length t.nodes) (move_list s t i) bare) k blank_node).parent) f

@@ -1,9 +1,8 @@
 -- The parent lists the new half: the links.
-use Rattle.std.specs.Prelude.{ℕ, suc, ◌+◌, ◌-◌, ◌≤◌, ◌<◌, ◌≡◌, refl, ◌⊎◌, ◌≢◌, length}
+use Rattle.std.specs.Prelude.{ℕ, suc, ◌+◌, ◌-◌, ◌≤◌, ◌<◌, ◌≡◌, refl, ◌⊎◌, ◌≢◌, length, Some}
 use Rattle.std.proofs.Math.Path.{sym, ap}
 use Rattle.std.proofs.Common.{◌∙◌, subst, inl, inr, arith}
 use Rattle.std.proofs.Math.Bool.{false, cond}
-use Rattle.std.proofs.Math.Option.{some}
 use Rattle.head.specs.declared.Settings.{Settings}
 use Rattle.rules.specs.Lists.{snoc, occurs}
 use Rattle.rules.specs.Tree.{Node, cap}
@@ -44,19 +43,19 @@ module _ {s : Settings} {A B : ℕ → Node} {n root es : ℕ} {R y o : ℕ → 
   added_filled k h = let a = added_length b k in let m = g.filled k h in omega arith
 
 module _ {s : Settings} {A B : ℕ → Node} {n root es : ℕ} {R : ℕ → ℕ} (q : ℕ) {p j : ℕ} (g : Links s A n root es R nil (is q) (is j)) (b : Added A B p j)
-    (lp : p < n) (lj : j < n) (fp : (A p).leaf ≡ false) (pj : (A j).parent ≡ some p) (rj : R p ≡ suc (R j)) (rq : q ≡ R p) where
-  tied_kid : (k c : ℕ) → k < n → (B k).leaf ≡ false → 0 < occurs c (B k).list → ((B c).parent ≡ some k) × (R k ≡ suc (R c))
+    (lp : p < n) (lj : j < n) (fp : (A p).leaf ≡ false) (pj : (A j).parent ≡ Some p) (rj : R p ≡ suc (R j)) (rq : q ≡ R p) where
+  tied_kid : (k c : ℕ) → k < n → (B k).leaf ≡ false → 0 < occurs c (B k).list → ((B c).parent ≡ Some k) × (R k ≡ suc (R c))
   tied_kid k c h f o = go (same? k p) (same? c j)
     where
-      go : (k ≡ p) ⊎ (k ≢ p) → (c ≡ j) ⊎ (c ≢ j) → ((B c).parent ≡ some k) × (R k ≡ suc (R c))
+      go : (k ≡ p) ⊎ (k ≢ p) → (c ≡ j) ⊎ (c ≢ j) → ((B c).parent ≡ Some k) × (R k ≡ suc (R c))
       go (inl e) (inl d) =
-          (b.parent_o c ∙ ap (λ z. (A z).parent) d ∙ pj ∙ ap (λ z. some z) (sym e), ap R e ∙ rj ∙ ap (λ z. suc (R z)) (sym d))
+          (b.parent_o c ∙ ap (λ z. (A z).parent) d ∙ pj ∙ ap (λ z. Some z) (sym e), ap R e ∙ rj ∙ ap (λ z. suc (R z)) (sym d))
       go (inl e) (inr d) =
           let a : occurs c (B k).list ≡ occurs c (A p).list + is c j =
           ap (λ z. occurs c (B z).list) e ∙ ap (λ z. occurs c z) b.kids_p ∙ occurs-snoc c (A p).list j in
           let u : is c j ≡ 0 = is_other c j d in
           let w = g.kid p c lp fp (omega arith) in
-          (b.parent_o c ∙ w.0 ∙ ap (λ z. some z) (sym e), ap R e ∙ w.1)
+          (b.parent_o c ∙ w.0 ∙ ap (λ z. Some z) (sym e), ap R e ∙ w.1)
       go (inr e) d =
           let a : occurs c (B k).list ≡ occurs c (A k).list = ap (λ z. occurs c z) (b.kids_o k e) in
           let w = g.kid k c h (sym (b.leaf_o k) ∙ f) (omega arith) in

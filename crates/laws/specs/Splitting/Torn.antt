@@ -1,9 +1,9 @@
 -- A split of an over-full node, before its second half is listed: the links.
-use Rattle.std.specs.Prelude.{ℕ, suc, ◌+◌, ◌-◌, ◌≤◌, ◌<◌, ◌≡◌, ◌⊎◌, ◌≢◌, Bool, List, length}
+use Rattle.std.specs.Prelude.{ℕ, suc, ◌+◌, ◌-◌, ◌≤◌, ◌<◌, ◌≡◌, ◌⊎◌, ◌≢◌, Bool, List, length, None, Some}
+use Rattle.std.proofs.lemmas.Option.{same_Some}
 use Rattle.std.proofs.Math.Path.{refl, ap}
 use Rattle.std.proofs.Common.{sym, ◌∙◌, subst, inl, inr, lt_irrefl, arith}
 use Rattle.std.proofs.Math.Bool.{true, false, cond}
-use Rattle.std.proofs.Math.Option.{none, some, some-injective}
 use Rattle.std.proofs.Math.Nat.{suc_inj}
 use Rattle.head.specs.declared.Settings.{Settings}
 use Rattle.rules.specs.Lists.{occurs}
@@ -20,7 +20,7 @@ pub record Parts (A B : ℕ → Node) (i n : ℕ) (one two : List ℕ) : Type 0 
   pub leaf_n : (B n).leaf ≡ (A i).leaf
   pub leaf_o : (k : ℕ) → k ≢ n → (B k).leaf ≡ (A k).leaf
   pub parent_n : (B n).parent ≡ (A i).parent
-  pub parent_moved : (k : ℕ) → k < n → (A i).leaf ≡ false → 0 < occurs k two → (B k).parent ≡ some n
+  pub parent_moved : (k : ℕ) → k < n → (A i).leaf ≡ false → 0 < occurs k two → (B k).parent ≡ Some n
   pub parent_kept : (k : ℕ) → k ≢ n → ((A i).leaf ≡ true) ⊎ (occurs k two ≡ 0) → (B k).parent ≡ (A k).parent
   pub both : (c : ℕ) → occurs c one + occurs c two ≡ occurs c (A i).list
   pub sizes : length one + length two ≡ length (A i).list
@@ -47,10 +47,10 @@ module _ {s : Settings} {A B : ℕ → Node} {n root es : ℕ} {R : ℕ → ℕ}
   rank_at : (k : ℕ) → k < n → put R n (R i) k ≡ R k
   rank_at k h = put_off R n (R i) k (lt_ne k n h)
 
-  torn_kid : (k c : ℕ) → k < suc n → (B k).leaf ≡ false → 0 < occurs c (B k).list → ((B c).parent ≡ some k) × (put R n (R i) k ≡ suc (put R n (R i) c))
+  torn_kid : (k c : ℕ) → k < suc n → (B k).leaf ≡ false → 0 < occurs c (B k).list → ((B c).parent ≡ Some k) × (put R n (R i) k ≡ suc (put R n (R i) c))
   torn_kid k c h f o = go (which k h)
     where
-      go : (k ≡ i) ⊎ ((k ≡ n) ⊎ ((k < n) × (k ≢ i))) → ((B c).parent ≡ some k) × (put R n (R i) k ≡ suc (put R n (R i) c))
+      go : (k ≡ i) ⊎ ((k ≡ n) ⊎ ((k < n) × (k ≢ i))) → ((B c).parent ≡ Some k) × (put R n (R i) k ≡ suc (put R n (R i) c))
       go (inl e) =
           let f' : (A i).leaf ≡ false = sym leaf_i ∙ ap (λ z. (B z).leaf) (sym e) ∙ f in
           let q : occurs c (B k).list ≡ occurs c one = ap (λ z. occurs c (B z).list) e ∙ ap (λ z. occurs c z) p.kids_i in
@@ -58,7 +58,7 @@ module _ {s : Settings} {A B : ℕ → Node} {n root es : ℕ} {R : ℕ → ℕ}
           let m = kid_in g i c l f' (omega arith) in
           let w = g.kid i c l f' (omega arith) in
           let u : occurs c (A i).list ≡ 1 = m.1 in (
-            p.parent_kept c (lt_ne c n m.0) (inr (omega arith)) ∙ w.0 ∙ ap (λ z. some z) (sym e),
+            p.parent_kept c (lt_ne c n m.0) (inr (omega arith)) ∙ w.0 ∙ ap (λ z. Some z) (sym e),
             ap (λ z. put R n (R i) z) e ∙ rank_at i l ∙ w.1 ∙ ap suc (sym (rank_at c m.0)),
           )
       go (inr (inl e)) =
@@ -67,7 +67,7 @@ module _ {s : Settings} {A B : ℕ → Node} {n root es : ℕ} {R : ℕ → ℕ}
           let b : occurs c one + occurs c two ≡ occurs c (A i).list = p.both c in
           let m = kid_in g i c l f' (omega arith) in
           let w = g.kid i c l f' (omega arith) in (
-            p.parent_moved c m.0 f' (omega arith) ∙ ap (λ z. some z) (sym e),
+            p.parent_moved c m.0 f' (omega arith) ∙ ap (λ z. Some z) (sym e),
             ap (λ z. put R n (R i) z) e ∙ put-at R n (R i) ∙ w.1 ∙ ap suc (sym (rank_at c m.0)),
           )
       go (inr (inr e)) =
@@ -80,7 +80,7 @@ module _ {s : Settings} {A B : ℕ → Node} {n root es : ℕ} {R : ℕ → ℕ}
             rank_at k e.0 ∙ w.1 ∙ ap suc (sym (rank_at c m.0)),
           )
         where
-          stay : ((A i).leaf ≡ true) ⊎ ((A i).leaf ≡ false) → (A c).parent ≡ some k → ((A i).leaf ≡ true) ⊎ (occurs c two ≡ 0)
+          stay : ((A i).leaf ≡ true) ⊎ ((A i).leaf ≡ false) → (A c).parent ≡ Some k → ((A i).leaf ≡ true) ⊎ (occurs c two ≡ 0)
           stay (inl t) w = inl t
           stay (inr t) w = inr (zero? (same? (occurs c two) 0))
             where
@@ -88,7 +88,7 @@ module _ {s : Settings} {A B : ℕ → Node} {n root es : ℕ} {R : ℕ → ℕ}
               zero? (inl z) = z
               zero? (inr z) =
                   let b : occurs c one + occurs c two ≡ occurs c (A i).list = p.both c in
-                  absurd (e.1 (some-injective k i (sym w ∙ (g.kid i c l t (omega arith)).0)))
+                  absurd (e.1 (same_Some k i (sym w ∙ (g.kid i c l t (omega arith)).0)))
 
   torn_ground : (k : ℕ) → k < suc n → (B k).leaf ≡ true → put R n (R i) k ≡ 0
   torn_ground k h f = go (which k h)
@@ -225,7 +225,7 @@ module _ {s : Settings} {A B : ℕ → Node} {n root es : ℕ} {R : ℕ → ℕ}
           let m = a in let m' = b in let m'' = d in
           omega arith
 
-  torn_root : (B root).parent ≡ none
+  torn_root : (B root).parent ≡ None
   torn_root = p.parent_kept root (lt_ne root n g.root_in) (go (leaf? (A i))) ∙ g.root_top
     where
       go : ((A i).leaf ≡ true) ⊎ ((A i).leaf ≡ false) → ((A i).leaf ≡ true) ⊎ (occurs root two ≡ 0)

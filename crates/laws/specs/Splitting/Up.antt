@@ -1,11 +1,10 @@
 -- The endings of a split, and all splits from a node upward: a tree looked at in one node becomes a settled tree.
 use Prim.Native.Nat.{ℕ, zero, suc, ◌+◌, ◌≤◌, ◌<◌}
-use Rattle.std.specs.Prelude.{◌≡◌, ◌⊎◌, ◌≢◌, Bool, true, not, T}
+use Rattle.std.specs.Prelude.{◌≡◌, ◌⊎◌, ◌≢◌, Bool, true, not, T, Option, None, Some}
 use Rattle.std.proofs.Math.Path.{refl, sym, ap, subst}
 use Rattle.std.proofs.Common.{◌∙◌, inl, inr, leb→le}
 use Rattle.std.proofs.Math.Bool.{false}
 use mathlib.Core.List.{[], ◌∷◌}
-use Rattle.std.proofs.Math.Option.{Option, none, some}
 use native.Mathlib.Omega.{arith}
 use Rattle.std.proofs.Math.Dec.{nleb→lt}
 use Rattle.std.proofs.Math.ListN.{length}
@@ -78,7 +77,7 @@ module _ {s : Settings} {t : Tree} {R : ℕ → ℕ} (i : ℕ) {total : ℕ} (g 
 
   -- ---- no parent: a new root
 
-  module _ (orphan : (node_at t i).parent ≡ none) where
+  module _ (orphan : (node_at t i).parent ≡ None) where
     i_root : i ≡ t.root
     i_root = no_parent_lem g.links i l refl orphan
 
@@ -172,7 +171,7 @@ module _ {s : Settings} {t : Tree} {R : ℕ → ℕ} (i : ℕ) {total : ℕ} (g 
 
   -- ---- a parent: it lists the new half
 
-  module _ (p : ℕ) (child-of : (node_at t i).parent ≡ some p) where
+  module _ (p : ℕ) (child-of : (node_at t i).parent ≡ Some p) where
     i≢n : i ≢ length t.nodes
     i≢n = lt_ne i (length t.nodes) l
 
@@ -266,8 +265,8 @@ split_up_lem s (suc k) i t R total c g l f = go (fitting s t i) refl (λ p u Q h
     next : (o : Option ℕ) → (node_at t i).parent ≡ o → 1 < length (node_at t i).list
         → ((p : ℕ) (u : Tree) (Q : ℕ → ℕ) → Looking s u Q p total → p < length u.nodes → Q u.root < Q p + k → Restored s (split_up s k p u) total)
         → Restored s (split_next s (λ p u. split_up s k p u) i (length t.nodes) o (split s i t)) total
-    next none e m ih = (R₀ i g l c m e, crowned-settled i g l c m e)
-    next (some p) e m ih =
+    next None e m ih = (R₀ i g l c m e, crowned-settled i g l c m e)
+    next (Some p) e m ih =
         ih p (extended p (length t.nodes) (split s i t)) (put R (length t.nodes) (R i)) (next_looking i g l c m p e) (next_in i g l c m p e)
         (let a = next_rank i g l c m p e in let b = next_root i g l c m p e in omega arith)
 

@@ -1,9 +1,9 @@
 -- A split and its two endings keep each node the sum of its list.
-use Rattle.std.specs.Prelude.{ℕ, suc, ◌+◌, ◌≤◌, ◌<◌, ◌≡◌, ◌⊎◌, ◌≢◌, Bool, List, [], ◌∷◌}
+use Rattle.std.specs.Prelude.{ℕ, suc, ◌+◌, ◌≤◌, ◌<◌, ◌≡◌, ◌⊎◌, ◌≢◌, Bool, List, [], ◌∷◌, Some}
+use Rattle.std.proofs.lemmas.Option.{none-some, same_Some}
 use Rattle.std.proofs.Math.Path.{refl, sym, ap, subst}
 use Rattle.std.proofs.Common.{◌∙◌, inl, inr}
 use Rattle.std.proofs.Math.Bool.{true, false}
-use Rattle.std.proofs.Math.Option.{some, some-injective, none-ne-some}
 use native.Mathlib.Omega.{arith}
 use Rattle.head.specs.declared.Settings.{Settings}
 use Rattle.rules.specs.Lists.{snoc, occurs}
@@ -146,7 +146,7 @@ module _ {s : Settings} {A B : ℕ → Node} {n root es : ℕ} {R : ℕ → ℕ}
 
 module _ {s : Settings} {A B : ℕ → Node} {n root es : ℕ} {R : ℕ → ℕ} (q : ℕ) {p i j : ℕ} {E W : ℕ → ℕ} (U : ℕ → ℕ) {total : ℕ}
     (g : Links s A n root es R nil (is q) (is j)) (b : Added A B p j) (lp : p < n) (li : i < n) (fp : (A p).leaf ≡ false) (ji : i ≢ j)
-    (pi : (A i).parent ≡ some p) (w : Short A E W n root total i j) (same : (k : ℕ) → U k ≡ W k) where
+    (pi : (A i).parent ≡ Some p) (w : Short A E W n root total i j) (same : (k : ℕ) → U k ≡ W k) where
   change-own : (m : Node) → own m E U ≡ own m E W
   unfolding own pick
   change-own m = go m.leaf
@@ -167,10 +167,10 @@ module _ {s : Settings} {A B : ℕ → Node} {n root es : ℕ} {R : ℕ → ℕ}
         where
           zero? : (occurs i (A k).list ≡ 0) ⊎ (occurs i (A k).list ≢ 0) → inner (A k) i ≡ 0
           zero? (inl z) = inner_yes (A k) i e ∙ z
-          zero? (inr z) = absurd (d (some-injective k p (sym (g.kid k i h e (omega arith)).0 ∙ pi)))
+          zero? (inr z) = absurd (d (same_Some k p (sym (g.kid k i h e (omega arith)).0 ∙ pi)))
 
   root_not : i ≢ root
-  root_not e = none-ne-some p (sym g.root_top ∙ ap (λ z. (A z).parent) (sym e) ∙ pi)
+  root_not e = none-some p (sym g.root_top ∙ ap (λ z. (A z).parent) (sym e) ∙ pi)
 
   sums' : (k : ℕ) → k < n → U k ≡ own (B k) E U
   unfolding own over snoc

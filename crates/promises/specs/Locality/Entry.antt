@@ -1,16 +1,13 @@
 -- A row in, before any rebuild, alters one entry or adds one.
 use Prim.Native.Nat.{ℕ, ◌<◌}
-use Rattle.std.specs.Prelude.{◌≡◌, Bool, length, get_or}
+use Rattle.std.specs.Prelude.{◌≡◌, Bool, length, get_or, Some, Option, None}
 use Rattle.std.proofs.Math.Path.{refl}
 use Rattle.std.proofs.Common.{sym, ap, ◌∙◌, subst, inl, inr, arith}
 use Rattle.std.proofs.Math.Bool.{true, false, cond}
-use Rattle.std.proofs.Math.Option.{some}
 use Rattle.std.specs.Float.Ieee.{Float}
 use Rattle.feature.specs.declared.Summary.{Summary}
 use Rattle.feature.specs.Summaries.{blank}
 use Rattle.head.specs.declared.Settings.{Settings}
-use Rattle.rules.specs.declared.Nearest.{Nearest}
-use Rattle.rules.specs.declared.Nearest.TheVariants.{Entry, Nothing}
 use Rattle.rules.specs.Lists.{change_at, snoc, occurs}
 use Rattle.rules.specs.Tree.{Tree, node_at, entry_at, summed, with_nodes, with_entries}
 use Rattle.rules.specs.Split.{split_up, split_from}
@@ -40,13 +37,13 @@ winner_in s i l t total (inr w) here leaf = unfold winner in go (searched to (no
     to : ℕ → Float
     to e = i.near (entry_at t e)
 
-    go : (r : Nearest) → Hit (λ e. 0 < occurs e (node_at t l).list) r → Hit (λ e. e < length t.entries) r
-    go Nothing a = tt
-    go (Entry e) a = (held_in_lem s (node_at t) (length t.nodes) t.root (length t.entries) w.0 nil nil nil w.1.links l e here leaf a).0
+    go : (r : Option ℕ) → Hit (λ e. 0 < occurs e (node_at t l).list) r → Hit (λ e. e < length t.entries) r
+    go None a = tt
+    go (Some e) a = (held_in_lem s (node_at t) (length t.nodes) t.root (length t.entries) w.0 nil nil nil w.1.links l e here leaf a).0
 
 path_list : (F : Summary → Summary) (l : ℕ) (t : Tree) (k : ℕ) → (node_at (along_path F l t) k).list ≡ (node_at t k).list
 unfolding along_path with_nodes node_at summed
-path_list F l t k = climb_keeps F (λ m. m.list) (λ m. refl) (length t.nodes) (some l) t.nodes k
+path_list F l t k = climb_keeps F (λ m. m.list) (λ m. refl) (length t.nodes) (Some l) t.nodes k
 
 -- the way along the path, which is before the search, leaves the winner as it is
 pub winner-found : (i : Item) (l : ℕ) (t : Tree)
@@ -67,18 +64,18 @@ grown-one s i l t total k here leaf = go (searched (λ e. i.near (entry_at u e))
     same_test : (e : ℕ) → absorbs i e u ≡ absorbs i e t
     same_test e = unfold along_path with_nodes entry_at absorbs in refl
 
-    no_winner : winner i l t ≡ Nothing → (e : ℕ) → winner i l t ≡ Entry e → absorbs i e t ≡ false
+    no_winner : winner i l t ≡ None → (e : ℕ) → winner i l t ≡ Some e → absorbs i e t ≡ false
     no_winner f e g = let z : ◌≡◌ {A = ℕ} 0 1 = cc in absurd (omega arith)
 
-    go : (r : Nearest) → winner i l t ≡ r → OneEntry i l t (split_up s (length (absorbed_or_begun i l r u).nodes) l (absorbed_or_begun i l r u))
-    go Nothing f =
+    go : (r : Option ℕ) → winner i l t ≡ r → OneEntry i l t (split_up s (length (absorbed_or_begun i l r u).nodes) l (absorbed_or_begun i l r u))
+    go None f =
         began (no_winner f)
-        (split_up_entries s (length (absorbed_or_begun i l Nothing u).nodes) l (absorbed_or_begun i l Nothing u)
+        (split_up_entries s (length (absorbed_or_begun i l None u).nodes) l (absorbed_or_begun i l None u)
         ∙ (unfold absorbed_or_begun begun along_path with_entries with_nodes in refl))
-    go (Entry e) f = by (absorbs i e u) refl
+    go (Some e) f = by (absorbs i e u) refl
       where
         v : Tree
-        v = absorbed_or_begun i l (Entry e) u
+        v = absorbed_or_begun i l (Some e) u
 
         ends : (split_up s (length v.nodes) l v).entries ≡ v.entries
         ends = split_up_entries s (length v.nodes) l v

@@ -1,13 +1,11 @@
 -- A row in, before any rebuild, alters nodes on its leaf's way up and new ones; of others at most the parent, which a split moved to a new node.
-use Rattle.std.specs.Prelude.{ℕ, zero, suc, ◌+◌, ◌≤◌, ◌<◌, ◌≡◌, refl, ◌⊎◌, ◌≢◌, Bool, true, false, not, cond, List, T, length, get_or}
+use Rattle.std.specs.Prelude.{ℕ, zero, suc, ◌+◌, ◌≤◌, ◌<◌, ◌≡◌, refl, ◌⊎◌, ◌≢◌, Bool, true, false, not, cond, List, T, length, get_or, Option, None, Some}
+use Rattle.std.proofs.lemmas.Option.{none-some, same_Some}
 use Rattle.std.proofs.Common.{sym, ap, ◌∙◌, subst, inl, inr, arith}
-use Rattle.std.proofs.Math.Option.{Option, none, some, some-injective, none-ne-some}
 use Rattle.std.proofs.Math.Dec.{nleb→lt}
 use Rattle.binary64.specs.Whole.{most}
 use Rattle.feature.specs.declared.Summary.{Summary}
 use Rattle.head.specs.declared.Settings.{Settings}
-use Rattle.rules.specs.declared.Nearest.{Nearest}
-use Rattle.rules.specs.declared.Nearest.TheVariants.{Entry, Nothing}
 use Rattle.rules.specs.Lists.{change_at, occurs}
 use Rattle.rules.specs.Tree.{Node, Tree, node_at, entry_at, blank_node, cap, adding, with_list, summed, with_nodes, with_entries}
 use Rattle.rules.specs.Split.{split, crowned, fitting, split_next, split_if, split_up, split_from}
@@ -54,7 +52,7 @@ kept_then P n t u v a b q l h =
 
 -- P goes up along the parents of t
 abbrev pub Upward : (ℕ → Type 0) → Tree → Type 0
-Upward P t = (m p : ℕ) → m < length t.nodes → P m → (node_at t m).parent ≡ some p → P p
+Upward P t = (m p : ℕ) → m < length t.nodes → P m → (node_at t m).parent ≡ Some p → P p
 
 module _ {s : Settings} (P : ℕ → Type 0) (n : ℕ) (new : (k : ℕ) → n ≤ k → P k) {t : Tree} {R : ℕ → ℕ} (i : ℕ) {total : ℕ} (g : Looking s t R i total)
     (l : i < length t.nodes) (c : Caps s) (many : 1 < length (node_at t i).list) (big : n ≤ length t.nodes) (pi : P i) (up : Upward P t) where
@@ -63,12 +61,12 @@ module _ {s : Settings} (P : ℕ → Type 0) (n : ℕ) (new : (k : ℕ) → n �
 
   -- moved, from i to the new node, or not
   told : (k : ℕ) → k < length t.nodes → ((node_at (split s i t) k).parent ≡ (node_at t k).parent)
-      ⊎ (((node_at (split s i t) k).parent ≡ some (length t.nodes)) × ((node_at t k).parent ≡ some i))
+      ⊎ (((node_at (split s i t) k).parent ≡ Some (length t.nodes)) × ((node_at t k).parent ≡ Some i))
   told k h = go (leaf? (node_at t i)) (same? (occurs k (move_list s t i)) 0)
     where
       go : ((node_at t i).leaf ≡ true) ⊎ ((node_at t i).leaf ≡ false) → (occurs k (move_list s t i) ≡ 0) ⊎ (occurs k (move_list s t i) ≢ 0)
-          → ((node_at (split s i t) k).parent ≡ (node_at t k).parent) ⊎ (((node_at (split s i t) k).parent ≡ some (length t.nodes))
-          × ((node_at t k).parent ≡ some i))
+          → ((node_at (split s i t) k).parent ≡ (node_at t k).parent) ⊎ (((node_at (split s i t) k).parent ≡ Some (length t.nodes))
+          × ((node_at t k).parent ≡ Some i))
       go (inl f) z = inl (parts.parent_kept k (lt_ne k (length t.nodes) h) (inl f))
       go (inr f) (inl z) = inl (parts.parent_kept k (lt_ne k (length t.nodes) h) (inr z))
       go (inr f) (inr z) = inr (parts.parent_moved k h f (omega arith), (g.links.kid i k l f (in_move i g l c many k (omega arith))).0)
@@ -79,8 +77,8 @@ module _ {s : Settings} (P : ℕ → Type 0) (n : ℕ) (new : (k : ℕ) → n �
       let qn : q ≢ length t.nodes = lt_ne q (length t.nodes) (omega arith) in
       record { summary = split-sum_o s t i l q qi qn; list = parts.kids_o q qi qn; leaf = parts.leaf_o q qn; parent = go (told q (omega arith)) }
     where
-      go : ((node_at (split s i t) q).parent ≡ (node_at t q).parent) ⊎ (((node_at (split s i t) q).parent ≡ some (length t.nodes))
-          × ((node_at t q).parent ≡ some i)) → ((node_at (split s i t) q).parent ≡ (node_at t q).parent) ⊎ Moved P n t (split s i t) q
+      go : ((node_at (split s i t) q).parent ≡ (node_at t q).parent) ⊎ (((node_at (split s i t) q).parent ≡ Some (length t.nodes))
+          × ((node_at t q).parent ≡ Some i)) → ((node_at (split s i t) q).parent ≡ (node_at t q).parent) ⊎ Moved P n t (split s i t) q
       go (inl e) = inl e
       go (inr e) = inr (record { from = i; was = e.1; on = pi; to = length t.nodes; new = big; is = e.0 })
 
@@ -97,13 +95,13 @@ module _ {s : Settings} (P : ℕ → Type 0) (n : ℕ) (new : (k : ℕ) → n �
           old : m < length t.nodes → P p
           old hm = by (told m hm)
             where
-              by : ((node_at (split s i t) m).parent ≡ (node_at t m).parent) ⊎ (((node_at (split s i t) m).parent ≡ some (length t.nodes))
-                  × ((node_at t m).parent ≡ some i)) → P p
+              by : ((node_at (split s i t) m).parent ≡ (node_at t m).parent) ⊎ (((node_at (split s i t) m).parent ≡ Some (length t.nodes))
+                  × ((node_at t m).parent ≡ Some i)) → P p
               by (inl y) = up m p hm pm (sym y ∙ e)
-              by (inr y) = new p (subst (λ z. n ≤ z) (some-injective (length t.nodes) p (sym y.0 ∙ e)) big)
+              by (inr y) = new p (subst (λ z. n ≤ z) (same_Some (length t.nodes) p (sym y.0 ∙ e)) big)
 
   -- the ending with a parent
-  module _ (p : ℕ) (child-of : (node_at t i).parent ≡ some p) where
+  module _ (p : ℕ) (child-of : (node_at t i).parent ≡ Some p) where
     pub next_p : P p
     next_p = up i p l pi child-of
 
@@ -166,8 +164,8 @@ splits_kept s P n new (suc k) i t R total c g l big pi up = go (fitting s t i) r
         → ((p : ℕ) (u : Tree) (Q : ℕ → ℕ) → Looking s u Q p total → p < length u.nodes → n ≤ length u.nodes → P p → Upward P u
         → Spared P n u (split_up s k p u))
         → Spared P n t (split_next s (λ p u. split_up s k p u) i (length t.nodes) o (split s i t))
-    next none e m ih = crown_kept P n new i g l c m big pi up
-    next (some p) e m ih =
+    next None e m ih = crown_kept P n new i g l c m big pi up
+    next (Some p) e m ih =
         kept_then P n t (extended p (length t.nodes) (split s i t)) (split_up s k p (extended p (length t.nodes) (split s i t)))
         (next-kept P n new i g l c m big pi up p e)
         (ih p (extended p (length t.nodes) (split s i t)) (put R (length t.nodes) (R i)) (next_looking i g l c m p e) (next_in i g l c m p e)
@@ -185,46 +183,46 @@ splits_kept s P n new (suc k) i t R total c g l big pi up = go (fitting s t i) r
 -- ---- the row's way up, and the leaf
 
 climb_kept : (P : ℕ → Type 0) (F : Summary → Summary) (k m : ℕ) (ns : List Node) → P m
-    → ((m p : ℕ) → m < length ns → P m → (get_or ns m blank_node).parent ≡ some p → P p)
-    → (q : ℕ) → (P q → ⊥) → get_or (climbed F k (some m) ns) q blank_node ≡ get_or ns q blank_node
+    → ((m p : ℕ) → m < length ns → P m → (get_or ns m blank_node).parent ≡ Some p → P p)
+    → (q : ℕ) → (P q → ⊥) → get_or (climbed F k (Some m) ns) q blank_node ≡ get_or ns q blank_node
 unfolding climbed blank_node summed
 climb_kept P F zero m ns pm up q off = refl
 climb_kept P F (suc k) m ns pm up q off = go (get_or ns m blank_node).parent refl (λ p pp. climb_kept P F k p (change_at (summed F) m ns) pp up' q off)
   where
-    up' : (a p : ℕ) → a < length (change_at (summed F) m ns) → P a → (get_or (change_at (summed F) m ns) a blank_node).parent ≡ some p → P p
+    up' : (a p : ℕ) → a < length (change_at (summed F) m ns) → P a → (get_or (change_at (summed F) m ns) a blank_node).parent ≡ Some p → P p
     up' a p h pa e =
         up a p (subst (λ z. a < z) (length-change (summed F) m ns) h) pa (sym (change_keeps (λ n. n.parent) (summed F) m a blank_node ns (λ n. refl)) ∙ e)
 
     same : get_or (change_at (summed F) m ns) q blank_node ≡ get_or ns q blank_node
     same = change_off (summed F) m q blank_node ns (λ e. off (subst P (sym e) pm))
 
-    stop : climbed F k none (change_at (summed F) m ns) ≡ change_at (summed F) m ns
+    stop : climbed F k None (change_at (summed F) m ns) ≡ change_at (summed F) m ns
     stop = ends k
       where
-        ends : (k : ℕ) → climbed F k none (change_at (summed F) m ns) ≡ change_at (summed F) m ns
+        ends : (k : ℕ) → climbed F k None (change_at (summed F) m ns) ≡ change_at (summed F) m ns
         ends zero = refl
         ends (suc k) = refl
 
-    inn : (p : ℕ) → (get_or ns m blank_node).parent ≡ some p → P p
+    inn : (p : ℕ) → (get_or ns m blank_node).parent ≡ Some p → P p
     inn p e = by (lt? m (length ns))
       where
         by : (m < length ns) ⊎ (length ns ≤ m) → P p
         by (inl h) = up m p h pm e
-        by (inr h) = absurd (none-ne-some p (ap (λ n. n.parent) (sym (past_end ns blank_node m h)) ∙ e))
+        by (inr h) = absurd (none-some p (ap (λ n. n.parent) (sym (past_end ns blank_node m h)) ∙ e))
 
     go : (o : Option ℕ) → (get_or ns m blank_node).parent ≡ o
-        → ((p : ℕ) → P p → get_or (climbed F k (some p) (change_at (summed F) m ns)) q blank_node ≡ get_or (change_at (summed F) m ns) q blank_node)
+        → ((p : ℕ) → P p → get_or (climbed F k (Some p) (change_at (summed F) m ns)) q blank_node ≡ get_or (change_at (summed F) m ns) q blank_node)
         → get_or (climbed F k o (change_at (summed F) m ns)) q blank_node ≡ get_or ns q blank_node
-    go none e ih = ap (λ z. get_or z q blank_node) stop ∙ same
-    go (some p) e ih = ih p (inn p e) ∙ same
+    go None e ih = ap (λ z. get_or z q blank_node) stop ∙ same
+    go (Some p) e ih = ih p (inn p e) ∙ same
 
 -- joining alters the leaf's list at most
-join_kept : (P : ℕ → Type 0) (n : ℕ) (i : Item) (l : ℕ) (r : Nearest) (t : Tree) → P l → Spared P n t (absorbed_or_begun i l r t)
+join_kept : (P : ℕ → Type 0) (n : ℕ) (i : Item) (l : ℕ) (r : Option ℕ) (t : Tree) → P l → Spared P n t (absorbed_or_begun i l r t)
 unfolding absorbed_or_begun begun absorbed with_entries with_nodes node_at
-join_kept P n i l Nothing t pl =
+join_kept P n i l None t pl =
     (λ q h off. as_before P n t (begun l i.alone t) q (change_off (adding (length t.entries)) l q blank_node t.nodes
     (λ e. off (subst P (sym e) pl))))
-join_kept P n i l (Entry e) t pl = go (absorbs i e t)
+join_kept P n i l (Some e) t pl = go (absorbs i e t)
   where
     go : (b : Bool) → Spared P n t (cond b (absorbed i e t) (begun l i.alone t))
     go true = λ q h off. as_before P n t (absorbed i e t) q refl
@@ -232,19 +230,19 @@ join_kept P n i l (Entry e) t pl = go (absorbs i e t)
         λ q h off. as_before P n t (begun l i.alone t) q (change_off (adding (length t.entries)) l q blank_node t.nodes
         (λ e. off (subst P (sym e) pl)))
 
-join_parent : (i : Item) (l : ℕ) (r : Nearest) (t : Tree) (k : ℕ) → (node_at (absorbed_or_begun i l r t) k).parent ≡ (node_at t k).parent
+join_parent : (i : Item) (l : ℕ) (r : Option ℕ) (t : Tree) (k : ℕ) → (node_at (absorbed_or_begun i l r t) k).parent ≡ (node_at t k).parent
 unfolding absorbed_or_begun begun absorbed with_entries with_nodes node_at adding with_list
-join_parent i l Nothing t k = change_keeps (λ m. m.parent) (adding (length t.entries)) l k blank_node t.nodes (λ m. refl)
-join_parent i l (Entry e) t k = go (absorbs i e t)
+join_parent i l None t k = change_keeps (λ m. m.parent) (adding (length t.entries)) l k blank_node t.nodes (λ m. refl)
+join_parent i l (Some e) t k = go (absorbs i e t)
   where
     go : (b : Bool) → (node_at (cond b (absorbed i e t) (begun l i.alone t)) k).parent ≡ (node_at t k).parent
     go true = refl
     go false = change_keeps (λ m. m.parent) (adding (length t.entries)) l k blank_node t.nodes (λ m. refl)
 
-join_length : (i : Item) (l : ℕ) (r : Nearest) (t : Tree) → length (absorbed_or_begun i l r t).nodes ≡ length t.nodes
+join_length : (i : Item) (l : ℕ) (r : Option ℕ) (t : Tree) → length (absorbed_or_begun i l r t).nodes ≡ length t.nodes
 unfolding absorbed_or_begun begun absorbed with_entries with_nodes
-join_length i l Nothing t = length-change (adding (length t.entries)) l t.nodes
-join_length i l (Entry e) t = go (absorbs i e t)
+join_length i l None t = length-change (adding (length t.entries)) l t.nodes
+join_length i l (Some e) t = go (absorbs i e t)
   where
     go : (b : Bool) → length (cond b (absorbed i e t) (begun l i.alone t)).nodes ≡ length t.nodes
     go true = refl
@@ -274,4 +272,4 @@ grown-kept s i l t R old ok c g n b here leaf P new pl up =
         unfold along_path with_nodes node_at in climb_kept P F (length t.nodes) l t.nodes pl (λ m p h pm e. up m p h pm (unfold node_at in e)) q off
 
     path_parent : (F : Summary → Summary) (m : ℕ) → (node_at (along_path F l t) m).parent ≡ (node_at t m).parent
-    path_parent F m = unfold along_path with_nodes node_at summed in climb_keeps F (λ m. m.parent) (λ m. refl) (length t.nodes) (some l) t.nodes m
+    path_parent F m = unfold along_path with_nodes node_at summed in climb_keeps F (λ m. m.parent) (λ m. refl) (length t.nodes) (Some l) t.nodes m

@@ -1,7 +1,6 @@
 -- Locality: what one row's insert alters when no rebuild follows it.
-use Rattle.std.specs.Prelude.{ℕ, ◌≤◌, ◌<◌, ◌+◌, ◌≡◌, refl, ◌⊎◌, Bool, true, false, cond, List, T, ltb, length, Float}
+use Rattle.std.specs.Prelude.{ℕ, ◌≤◌, ◌<◌, ◌+◌, ◌≡◌, refl, ◌⊎◌, Bool, true, false, cond, List, T, ltb, length, Float, Some}
 use Rattle.std.proofs.Common.{ap, subst, inl, inr, arith, ltb→lt}
-use Rattle.std.proofs.Math.Option.{some}
 use Rattle.binary64.specs.Whole.{most}
 use Rattle.head.specs.declared.Settings.{Settings}
 use Rattle.head.specs.Limits.{Sized}
@@ -39,7 +38,7 @@ module _ (s : Settings) (i : Item) (l : ℕ) (t : Tree) where
       → Same (OnPath t l) (length t.nodes) t u q
   settled_node {R} g u q h e = record { summary = e.summary; list = e.list; leaf = e.leaf; parent = go e.parent }
     where
-      old : (p : ℕ) → (node_at t q).parent ≡ some p → Near p → OnPath t l p
+      old : (p : ℕ) → (node_at t q).parent ≡ Some p → Near p → OnPath t l p
       old p f (inl o) = o
       old p f (inr n) = let r = (parent_lists g.links q p h refl f).0 in absurd (omega arith)
 
@@ -72,7 +71,7 @@ module _ (s : Settings) (i : Item) (l : ℕ) (t : Tree) where
           by (inl o) = off o
           by (inr n) = omega arith
 
-          up : (m p : ℕ) → m < length t.nodes → Near m → (node_at t m).parent ≡ some p → Near p
+          up : (m p : ℕ) → m < length t.nodes → Near m → (node_at t m).parent ≡ Some p → Near p
           up m p k (inl o) f = inl (path_parent_on t w.1.links l m p here o f)
           up m p k (inr n) f = absurd (omega arith)
 

@@ -1,6 +1,6 @@
 -- Each entry weighs as many rows as the account gives it: kept by each step.
 use Prim.Native.Nat.{ℕ, suc, ◌+◌, ◌*◌, ◌≤◌, ◌<◌}
-use Rattle.std.specs.Prelude.{◌≡◌, ◌⊎◌, ◌≢◌, Bool, cond, List, map, get_or, Float}
+use Rattle.std.specs.Prelude.{◌≡◌, ◌⊎◌, ◌≢◌, Bool, cond, List, map, get_or, Float, Option, None, Some}
 use Rattle.std.proofs.Common.{sym, ◌∙◌, subst, inl, inr, map-id, zero-mul, mul-one, mul-zero}
 use Rattle.std.proofs.Math.Path.{ap}
 use Rattle.std.proofs.Math.Bool.{true, false}
@@ -11,8 +11,6 @@ use Rattle.binary64.specs.Whole.{most}
 use Rattle.feature.specs.declared.Summary.{Summary}
 use Rattle.feature.specs.Summaries.{blank}
 use Rattle.head.specs.declared.Settings.{Settings}
-use Rattle.rules.specs.declared.Nearest.{Nearest}
-use Rattle.rules.specs.declared.Nearest.TheVariants.{Entry, Nothing}
 use Rattle.rules.specs.Lists.{change_at, snoc, count_up, occurs}
 use Rattle.rules.specs.Tree.{push, merge, Tree, entry_at, with_nodes, with_entries, row_count}
 use Rattle.rules.specs.Insert.{begun, absorbed, absorbed_or_begun, absorbs, row_item}
@@ -101,11 +99,11 @@ module _ (s : Settings) (x : List Float) (t : Tree) (exact : (c : ℕ) → c < l
           let d = is_other c e q in
           omega arith
 
-  pub joined_one : (l : ℕ) (r : Nearest) → Hit (λ e. e < (length t.entries)) r → (c : ℕ)
+  pub joined_one : (l : ℕ) (r : Option ℕ) → Hit (λ e. e < (length t.entries)) r → (c : ℕ)
       → entry_weight (absorbed_or_begun (row_item s x) l r t) c ≡ entry_weight t c + is c (taker_of (row_item s x) r t)
   unfolding absorbed_or_begun taker_of
-  joined_one l Nothing h c = new-one l c
-  joined_one l (Entry e) h c = go (absorbs (row_item s x) e t)
+  joined_one l None h c = new-one l c
+  joined_one l (Some e) h c = go (absorbs (row_item s x) e t)
     where
       go : (b : Bool) → entry_weight (cond b (absorbed (row_item s x) e t) (begun l (push s x blank) t)) c ≡ entry_weight t c + is c (cond b e (length t.entries))
       go true = fed-one e c h

@@ -1,5 +1,5 @@
 -- The account through rows and batches.
-use Rattle.std.specs.Prelude.{ℕ, suc, ◌+◌, ◌≤◌, ◌<◌, ◌≡◌, Bool, T, ltb, length, get_or, Float}
+use Rattle.std.specs.Prelude.{ℕ, suc, ◌+◌, ◌≤◌, ◌<◌, ◌≡◌, Bool, T, ltb, length, get_or, Float, Option, None, Some}
 use Rattle.std.proofs.Math.Path.{refl, sym, ap}
 use Rattle.std.proofs.Common.{◌∙◌, subst, inl, inr, arith, ltb→lt}
 use Rattle.std.proofs.Math.Bool.{true, false, cond}
@@ -9,8 +9,6 @@ use Rattle.binary64.specs.Whole.{most}
 use Rattle.feature.specs.declared.Summary.{Summary}
 use Rattle.feature.specs.Summaries.{blank}
 use Rattle.head.specs.declared.Settings.{Settings}
-use Rattle.rules.specs.declared.Nearest.{Nearest}
-use Rattle.rules.specs.declared.Nearest.TheVariants.{Entry, Nothing}
 use Rattle.rules.specs.Lists.{change_at, snoc}
 use Rattle.rules.specs.Tree.{push, dist_to, Tree, node_at, entry_at, with_nodes, with_entries, row_count}
 use Rattle.rules.specs.Descent.{searched, leaf_for, along_path}
@@ -43,7 +41,7 @@ module _ (s : Settings) (x : List Float) (t : Tree) (total : ℕ) (small : total
   abbrev U : Tree
   U = along_path (push s x) (leaf_for t (λ c. dist_to s c x)) t
 
-  abbrev hit : Nearest
+  abbrev hit : Option ℕ
   hit =
       searched (λ e. dist_to s (entry_at (along_path (push s x) (leaf_for t (λ c. dist_to s c x)) t) e) x)
       (node_at (along_path (push s x) (leaf_for t (λ c. dist_to s c x)) t) (leaf_for t (λ c. dist_to s c x))).list
@@ -102,11 +100,11 @@ module _ (s : Settings) (x : List Float) (t : Tree) (total : ℕ) (small : total
       Out : ℕ → List Summary
       Out c = cond (eqb c (length t.entries)) (snoc t.entries (push s x blank)) (change_at (push s x) c t.entries)
 
-      joined : (r : Nearest) → Hit (λ e. e < length t.entries) r → (absorbed_or_begun (row_item s x) L r U).entries ≡ Out (taker_of (row_item s x) r U)
-      joined Nothing h =
+      joined : (r : Option ℕ) → Hit (λ e. e < length t.entries) r → (absorbed_or_begun (row_item s x) L r U).entries ≡ Out (taker_of (row_item s x) r U)
+      joined None h =
           unfold absorbed_or_begun taker_of begun with_nodes with_entries along_path in sym (at_end (length t.entries) (snoc t.entries (push s x blank))
           (change_at (push s x) (length t.entries) t.entries))
-      joined (Entry e) h = unfold absorbed_or_begun taker_of begun absorbed with_nodes with_entries along_path in pick (absorbs (row_item s x) e U)
+      joined (Some e) h = unfold absorbed_or_begun taker_of begun absorbed with_nodes with_entries along_path in pick (absorbs (row_item s x) e U)
         where
           pick : (b : Bool) → (cond b (absorbed (row_item s x) e U) (begun L (push s x blank) U)).entries ≡ Out (cond b e (length U.entries))
           pick true =

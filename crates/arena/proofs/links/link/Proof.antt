@@ -3,10 +3,10 @@ use Prim.Native.Nat.{◌+◌, ◌*◌, ◌≤◌}
 use mathlib.Core.Path.{◌∙◌}
 use native.Mathlib.Omega.{arith}
 use borrow.Author.Rules.{rules}
-use lib.ListN.{length, take}
+use lib.ListN.{length}
 use Rattle.arena.specs.Numbered.{block_fits, block_of, block_put}
 use Rattle.stretch.specs.Stretches.{put_stretch}
-use Rattle.stretch.specs.Blocks.{parent_of, linked-is, relinked}
+use Rattle.stretch.specs.Blocks.{linked-is, relinked}
 use Rattle.arena.proofs.links.link.Statement.{statement}
 use Rattle.arena.proofs.links.link.Tie as tie
 
@@ -24,7 +24,6 @@ link-requires c κs =
           c.block_width-w.ensures,
       start.requires.1,
       start.requires.2,
-      start.requires.3,
     )
 
 returns : tie.Need-returns
@@ -34,7 +33,7 @@ returns c =
     let start = c.before.before.before.before.before.before.before in
     let s = start.args.s in
     block_put s start.args.links.now start.args.i block-width.result start.requires.0 block-width.ensures
-    (relinked (parent_of start.args.parent) start.args.leaf (take start.args.len start.args.list.now))
+    (relinked start.args.parent start.args.leaf start.args.list.now)
     c.link.new.b c.link.auto.b
     (λ p. c.link.ensures p ∙ linked-is s p _ _ _ _)
 

@@ -2,7 +2,7 @@
 use Prim.Native.Nat.{◌+◌, ◌*◌, ◌≤◌}
 use native.Mathlib.Omega.{arith}
 use borrow.Author.Rules.{rules}
-use lib.ListN.{length, take}
+use lib.ListN.{length}
 use Rattle.rules.specs.Tree.{with_list}
 use Rattle.arena.specs.Trees.{node_block}
 use Rattle.arena.specs.Writes.{node_relinked}
@@ -25,7 +25,6 @@ set-list-requires c κs =
       block_of start.args.s start.args.links.now start.args.i c.block_width-w.result
           (node_block start.args.s start.args.n _ start.args.i start.requires.0 start.requires.1) c.block_width-w.ensures,
       start.requires.2,
-      start.requires.3,
     )
 
 returns : tie.Need-returns
@@ -34,10 +33,10 @@ returns c =
     let block-width = c.block_width-w in
     let start = c.before.before.before.before.before.before.before in
     let s = start.args.s in
-    λ fs. node_relinked s start.args.n fs start.args.links.now _ (with_list (take start.args.len start.args.list.now))
+    λ fs. node_relinked s start.args.n fs start.args.links.now _ (with_list start.args.list.now)
     start.args.i start.requires.1 (block_put s start.args.links.now start.args.i block-width.result
     (node_block start.args.s start.args.n _ start.args.i start.requires.0 start.requires.1) block-width.ensures
-    (with_list (take start.args.len start.args.list.now)) c.set_list.new.b
+    (with_list start.args.list.now) c.set_list.new.b
     c.set_list.auto.b c.set_list.ensures)
 
 pub set_list_spec : {M : Type 1} → statement M

@@ -2,11 +2,10 @@
 use mathlib.Core.Path.{ap, ◌∙◌}
 use native.Mathlib.Omega.{arith}
 use borrow.Author.Rules.{rules}
-use lib.ListN.{take}
 use Rattle.rules.specs.Slices.{tree_of}
 use Rattle.arena.specs.Trees.{caps_small, block_in, slot_in}
 use Rattle.arena.specs.Writes.{node_more}
-use Rattle.stretch.specs.Blocks.{parent_of, node_of}
+use Rattle.stretch.specs.Blocks.{node_of}
 use Rattle.arena.proofs.nodes.append.Statement.{statement}
 use Rattle.arena.proofs.nodes.append.Tie as tie
 
@@ -22,7 +21,6 @@ link-requires c κs =
       block_in start.args.s start.args.n _ start.args.n.nodes start.requires.0.1 start.requires.0.2,
       start.requires.1.0,
       start.requires.1.1,
-      start.requires.1.2,
     )
 
 add-with-nodes : tie.Need-overflow_add-i
@@ -40,7 +38,7 @@ returns c =
     let a = start.args in
     let fs' = store.new.floats in
     let ls' = link.new.links in
-    let new = node_of a.c (parent_of a.parent) a.leaf (take a.len a.list.now) in (
+    let new = node_of a.c a.parent a.leaf a.list.now in (
       c.with_nodes.ensures,
       ap (λ m. tree_of a.s m fs' ls') c.with_nodes.ensures ∙ node_more a.s a.n a.floats.now fs' a.links.now
           ls' new start.requires.0.2 store.ensures link.ensures,

@@ -1,11 +1,11 @@
 -- `pairs::cousins::cheapest_beneath` meets its contract: what is left beneath the leaves from here gives the whole.
+use Rattle.std.specs.Prelude.{None}
 use Prim.Native.Nat.{◌+◌, ◌-◌, ◌≤◌}
 use mathlib.Core.Path.{◌≡◌, refl, sym, ap, ◌∙◌, subst}
 use mathlib.Core.Bool.{true}
 use native.Mathlib.Omega.{arith}
 use borrow.Author.Rules.{rules}
 use lib.ListN.{length, get_or, drop}
-use mathlib.Core.Option.{none}
 use Rattle.rules.specs.Tree.{node_at}
 use Rattle.rules.specs.Slices.{tree_of}
 use Rattle.rules.specs.Pairs.{cost_of, partner, beneath}
@@ -20,7 +20,7 @@ abbrev invariant-loop : tie.invariant-loop-k
 invariant-loop s n floats links leaves i best₀ k₀ best k =
     let t = tree_of s n floats links in
     (k ≤ length leaves) × Inside n.entries (partner_of best)
-    × (partner (cost_of s t i) i (partner_of best) (beneath t (drop k leaves)) ≡ partner (cost_of s t i) i none (beneath t leaves))
+    × (partner (cost_of s t i) i (partner_of best) (beneath t (drop k leaves)) ≡ partner (cost_of s t i) i None (beneath t leaves))
 
 abbrev decreases-loop : tie.decreases-loop-k
 decreases-loop s n floats links leaves i best₀ k₀ best k = length leaves - k

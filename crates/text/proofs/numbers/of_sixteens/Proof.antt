@@ -1,6 +1,6 @@
 -- `text::numbers::of_sixteens` meets its contract: n, of i digits, and the digits from i on spell the field's number.
+use Rattle.std.specs.Prelude.{Some}
 use Prim.Native.Nat.{◌-◌, ◌≤◌, ◌<◌}
-use mathlib.Core.Option.{some}
 use mathlib.Core.Path.{◌≡◌, refl, sym, ap, ◌∙◌}
 use native.Mathlib.Omega.{arith}
 use borrow.Author.Rules.{rules}
@@ -22,9 +22,9 @@ abbrev turn : tie.After-wide invariant-loop decreases-loop → tie.At-loop-i inv
 turn c = c.before.before.before.before.before
 
 -- the digit at i
-is : (c : tie.After-wide invariant-loop decreases-loop) → hex_digit (get_or (turn c).args.field.now (turn c).loop-i.i 0) ≡ some c.wide.result
+is : (c : tie.After-wide invariant-loop decreases-loop) → hex_digit (get_or (turn c).args.field.now (turn c).loop-i.i 0) ≡ Some c.wide.result
 is c =
-    digit-some _ _ (sym c.hex_digit.ensures ∙ c.in-Is.is) ∙ ap some (sym c.wide.ensures)
+    digit-some _ _ (sym c.hex_digit.ensures ∙ c.in-Is.is) ∙ ap Some (sym c.wide.ensures)
 
 loop-holds : tie.Need-loop-i-init invariant-loop decreases-loop
 unfolding sixteens

@@ -1,7 +1,7 @@
 -- `text::numbers::of_tens` meets its contract: n and the digits from i on spell the field's number.
+use Rattle.std.specs.Prelude.{Some}
 use Prim.Native.Nat.{ℕ, ◌+◌, ◌-◌, ◌*◌, ◌≤◌}
 use mathlib.Core.List.{List}
-use mathlib.Core.Option.{some}
 use mathlib.Core.Path.{◌≡◌, refl, sym, ap, ◌∙◌}
 use native.Mathlib.Omega.{arith}
 use borrow.Author.Rules.{rules}
@@ -26,8 +26,8 @@ abbrev text : tie.After-wide invariant-loop decreases-loop → List ℕ
 text c = (turn c).args.field.now
 
 -- the digit at i
-is : (c : tie.After-wide invariant-loop decreases-loop) → digit (get_or (text c) (turn c).loop-i.i 0) ≡ some c.wide.result
-is c = digit-some _ _ (sym c.digit.ensures ∙ c.in-Is.is) ∙ ap some (sym c.wide.ensures)
+is : (c : tie.After-wide invariant-loop decreases-loop) → digit (get_or (text c) (turn c).loop-i.i 0) ≡ Some c.wide.result
+is c = digit-some _ _ (sym c.digit.ensures ∙ c.in-Is.is) ∙ ap Some (sym c.wide.ensures)
 
 more : (c : tie.After-wide invariant-loop decreases-loop)
     → number_from digit 10 ((turn c).loop-i.n * 10 + c.wide.result) (drop ((turn c).loop-i.i + 1) (text c)) ≡ number_from digit 10 0 (text c)

@@ -1,8 +1,8 @@
 -- A run between two chunks: what holds of it, and what it prints if so many lines or bytes follow.
 use Rattle.std.specs.Prelude.{ℕ, ◌+◌, ◌-◌, ◌≤◌, ◌<◌, false, List, [], ◌∷◌, ◌++◌, reverse, ◌≡◌, refl, length, get_or, take, drop, Float}
-use Rattle.std.proofs.Common.{append_assoc, ◌∙◌, arith, add-one, length-drop, take-suc, take_all, take-take, take-add, length-take-le}
+use Rattle.std.proofs.Common.{append_assoc, ◌∙◌, arith, add-one, take-suc, take-append-drop}
 use Rattle.std.proofs.Math.Path.{sym, ap, subst}
-use Rattle.std.proofs.Math.Nat.{sub-zero}
+use Rattle.std.proofs.lemmas.Slice.{between_to_end}
 use Rattle.head.specs.declared.Head.{Head}
 use Rattle.head.specs.Heads.{settings_of}
 use Rattle.rules.specs.Tree.{Tree}
@@ -39,10 +39,6 @@ reads_none f = record { then = λ rest. refl }
 pub reads_both : {f g h : List ℕ → List ℕ} {a b : List ℕ} → Reads f a g → Reads g b h → Reads f (a ++ b) h
 reads_both {f} {g} {h} {a} {b} p q = record { then = λ rest. q.then rest ∙ p.then (b ++ rest) ∙ ap f (sym (append_assoc a b rest)) }
 
--- the rest from place i on
-pub rest_long : (chunk : List ℕ) (i : ℕ) → length (take (length chunk - i) (drop i chunk)) ≡ length chunk - i
-rest_long chunk i = length-take-le (length chunk - i) (drop i chunk) (let e = length-drop i chunk in omega arith)
-
 -- byte by byte
 module _ {f g : List ℕ → List ℕ} (chunk : List ℕ) (i : ℕ) where
   pub reads_more : {h : List ℕ → List ℕ} → i < length chunk → Reads f (take i chunk) g → Reads g (get_or chunk i 0 ∷ []) h → Reads f (take (i + 1) chunk) h
@@ -50,16 +46,13 @@ module _ {f g : List ℕ → List ℕ} (chunk : List ℕ) (i : ℕ) where
       let e : take i chunk ++ (get_or chunk i 0 ∷ []) ≡ take (i + 1) chunk = sym (take-suc chunk i 0 l) ∙ ap (λ n. take n chunk) (sym (add-one i)) in
       subst (λ bs. Reads f bs h) e (reads_both p q)
 
-  -- so many bytes more of the rest from place i on
-  pub reads_on : {h : List ℕ → List ℕ} (n : ℕ) → n ≤ length chunk - i → Reads f (take i chunk) g → Reads g (take n (take (length chunk - i) (drop i chunk))) h
-      → Reads f (take (i + n) chunk) h
-  reads_on {h} n l p q =
-      let e : take i chunk ++ take n (take (length chunk - i) (drop i chunk)) ≡ take (i + n) chunk =
-      ap (λ bs. take i chunk ++ bs) (take-take n (length chunk - i) (drop i chunk) l) ∙ sym (take-add i n chunk) in
-      subst (λ bs. Reads f bs h) e (reads_both p q)
-
-  pub reads_all : length chunk ≤ i → Reads f (take i chunk) g → Reads f chunk g
-  reads_all l p = subst (λ bs. Reads f bs g) (take_all i chunk l) p
+-- some bytes, and the rest of them
+pub reads_rest : {f g h : List ℕ → List ℕ} (bytes : List ℕ) (n : ℕ) → n ≤ length bytes → Reads f (take n bytes) g
+    → Reads g (take (length bytes - n) (drop n bytes)) h → Reads f bytes h
+reads_rest {f} {g} {h} bytes n l p q =
+    let e : take n bytes ++ take (length bytes - n) (drop n bytes) ≡ bytes =
+    ap (λ r. take n bytes ++ r) (between_to_end bytes n (length bytes) (omega arith)) ∙ take-append-drop n bytes in
+    subst (λ bs. Reads f bs h) e (reads_both p q)
 
 -- ---- what holds
 
@@ -160,11 +153,9 @@ module _ (r : Run) (st : Stage) (e : r.stage ≡ st) (fs : List Float) (ks : Lis
   pub stage_stands : Stands r.stage r fs ks → Stands st r fs ks
   stage_stands k = subst (λ (st : Stage). Stands st r fs ks) e k
 
-  pub stage_read : (line : List ℕ) {q : Run} {gs : List Float} {js : List ℕ} → LineRead (printed_of st r fs ks) (take (r.long - 0) line) q gs js
+  pub stage_read : (line : List ℕ) {q : Run} {gs : List Float} {js : List ℕ} → LineRead (printed_of st r fs ks) (take r.long line) q gs js
       → LineRead (printed_of r.stage r fs ks) (take r.long line) q gs js
-  stage_read line {q} {gs} {js} w =
-      subst (λ (st : Stage). LineRead (printed_of st r fs ks) (take r.long line) q gs js) (sym e)
-      (subst (λ n. LineRead (printed_of st r fs ks) (take n line) q gs js) (sub-zero r.long) w)
+  stage_read line {q} {gs} {js} w = subst (λ (st : Stage). LineRead (printed_of st r fs ks) (take r.long line) q gs js) (sym e) w
 
 pub line_reading : {before : List (List ℕ) → List ℕ} {l : List ℕ} {r : Run} {fs : List Float} {ks : List ℕ} → LineRead before l r fs ks → Reading r fs ks
 line_reading w = record { short = (let e = w.none_left in omega arith); stands = w.stands }

@@ -41,13 +41,13 @@ pub struct Run {
 const MOST: usize = 200;
 
 // A bad run stays bad for its own reason.
+#[tactic(auto, unfolding(crate::specs::Runs::bad_stage))]
 fn bad_stage(stage: Stage, why: Reason) -> Stage
     ensures { result ≡ bad_stage stage why }
 {
     match stage {
-        Stage::First => Stage::Bad(why),
-        Stage::Rows => Stage::Bad(why),
-        Stage::Bad(first) => Stage::Bad(first),
+        Stage::First | Stage::Rows => Stage::Bad(why),
+        Stage::Bad(_) => stage,
     }
 }
 
@@ -55,14 +55,10 @@ fn bad_stage(stage: Stage, why: Reason) -> Stage
 fn bad(run: Run, why: Reason) -> Run
     ensures { result ≡ bad_run why run }
 {
-    let before = run.stage;
-    let stage = bad_stage(before, why);
-    let head = run.head;
     Run {
-        head,
-        stage,
-        number: run.number,
+        stage: bad_stage(run.stage, why),
         long: 0,
+        ..run
     }
 }
 
@@ -71,18 +67,13 @@ fn push(run: Run, b: u8, line: &mut [u8]) -> Run
     requires { (200 ≤ length line.old) × (run.long ≤ 200) }
     ensures { Pushed run b line.old result line.new }
 {
-    let long = run.long;
-    if long == MOST {
+    if run.long == MOST {
         return bad(run, Reason::Long);
     }
-    line[long] = b;
-    let head = run.head;
-    let stage = run.stage;
+    line[run.long] = b;
     Run {
-        head,
-        stage,
-        number: run.number,
-        long: long + 1,
+        long: run.long + 1,
+        ..run
     }
 }
 
@@ -93,27 +84,14 @@ fn copy(run: Run, bytes: &[u8], line: &mut [u8]) -> Run
     ensures copied { Copied run line.old (take (result.long - run.long) bytes.now) result line.new }
 {
     let mut long = run.long;
-    let mut i = 0;
-    while i < bytes.len() {
-        let b = bytes[i];
-        if b == b'\n' {
+    for b in bytes {
+        if *b == b'\n' || long == MOST {
             break;
         }
-        if long == MOST {
-            break;
-        }
-        line[long] = b;
+        line[long] = *b;
         long += 1;
-        i += 1;
     }
-    let head = run.head;
-    let stage = run.stage;
-    Run {
-        head,
-        stage,
-        number: run.number,
-        long,
-    }
+    Run { long, ..run }
 }
 
 // Line 1: the head that it sets, and an empty tree.
@@ -125,11 +103,9 @@ fn read_first(run: Run, bytes: &[u8], floats: &mut [f64], links: &mut [u32]) -> 
     let First::Head(h) = first_line(bytes) else {
         return bad(run, reasons::first(bytes));
     };
-    let head = create(h, floats, links);
-    let stage = Stage::Rows;
     Run {
-        head,
-        stage,
+        head: create(h, floats, links),
+        stage: Stage::Rows,
         number: 2,
         long: 0,
     }
@@ -162,10 +138,9 @@ fn insert(
         1,
         Work::Insert,
     );
-    let stage = Stage::Rows;
     Run {
         head,
-        stage,
+        stage: Stage::Rows,
         number: run.number + 1,
         long: 0,
     }
@@ -186,8 +161,7 @@ fn read_row(
         floats.new links.new }
 {
     let mut row = [0.0; 8];
-    let h = run.head;
-    let dim = h.dim;
+    let dim = run.head.dim;
     let RowLine::Row = row_line(bytes, dim, &mut row) else {
         return bad(run, reasons::row(bytes));
     };
@@ -208,11 +182,10 @@ pub fn end_line(
     ensures { LineRead (printed_of run.stage run floats.old links.old) (take run.long line.now) result
         floats.new links.new }
 {
-    let long = run.long;
-    let stage = run.stage;
-    match stage {
-        Stage::First => read_first(run, &line[0..long], floats, links),
-        Stage::Rows => read_row(run, &line[0..long], floats, links, scratch, numbers),
+    let bytes = &line[..run.long];
+    match run.stage {
+        Stage::First => read_first(run, bytes, floats, links),
+        Stage::Rows => read_row(run, bytes, floats, links, scratch, numbers),
         Stage::Bad(why) => bad(run, why),
     }
 }

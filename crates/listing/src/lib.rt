@@ -19,11 +19,9 @@ use reports::PAGE;
 pub fn begin() -> Run
     ensures { Begun result }
 {
-    let head = Head::new(1, 2, 1, 1, 0, 0, 0, 0.0);
-    let stage = Stage::First;
     Run {
-        head,
-        stage,
+        head: Head::new(1, 2, 1, 1, 0, 0, 0, 0.0),
+        stage: Stage::First,
         number: 1,
         long: 0,
     }
@@ -46,11 +44,11 @@ pub fn feed(
         (printed result line.new floats.new links.new) }
 {
     let mut r = run;
-    let mut i = 0;
-    while i < chunk.len() {
-        let p = lines::piece(r, &chunk[i..], line, floats, links, scratch, numbers);
+    let mut rest = chunk;
+    while !rest.is_empty() {
+        let p = lines::piece(r, rest, line, floats, links, scratch, numbers);
         r = p.run;
-        i += p.read;
+        rest = &rest[p.read..];
     }
     r
 }

@@ -1,10 +1,13 @@
 -- The first rule that a bad line breaks.
 use Rattle.std.specs.Prelude.{ℕ, zero, suc, ◌+◌, ◌-◌, ◌≤◌, ◌<◌, Bool, true, false, cond, ◌&&◌, ◌≡◌, refl, ltb, eqb, length, get_or, Option, None, Some}
-use Rattle.std.proofs.Math.Bool.{and-false}
+use Rattle.std.proofs.Math.Bool.{and-false, and-true}
+use lib.Pointwise.{pointwise}
+use Rattle.std.specs.List.{ends_with}
 use mathlib.Core.List.{List, [], ◌∷◌}
 use Rattle.std.proofs.Math.Path.{sym, ap}
 use Rattle.std.proofs.Common.{◌∙◌, arith, add-one, leb-false, drop-cons}
 use Rattle.std.proofs.lemmas.Bool.{lt-leb}
+use Rattle.std.proofs.lemmas.Bool.Decides.{nat_tests}
 use Rattle.std.proofs.Math.Dec.{leb}
 use Rattle.std.proofs.Math.ListN.{drop}
 use Rattle.std.proofs.Math.Seq.{drop-length}
@@ -70,10 +73,21 @@ row_reason l =
 
 -- ---- as code reads them
 
-pub none_ends : (l : List ℕ) → length l ≡ 0 → ends_in_return l ≡ false
+last_byte : (l : List ℕ) → 0 < length l → drop (length l - 1) l ≡ get_or l (length l - 1) 0 ∷ []
+last_byte l h =
+    let e : suc (length l - 1) ≡ length l = omega arith in
+    drop-cons l (length l - 1) 0 (omega arith) ∙ ap (λ n. get_or l (length l - 1) 0 ∷ drop n l) e ∙ ap (λ r. get_or l (length l - 1) 0 ∷ r) (drop-length l)
+
+eqb_turned : (a b : ℕ) → eqb a b ≡ eqb b a
+eqb_turned a b = grind (arith, nat_tests)
+
+-- an empty line has no last byte
+pub return_ends : (l : List ℕ) → ends_with eqb l (13 ∷ []) ≡ ends_in_return l
 unfolding ends_in_return
-none_ends [] e = refl
-none_ends (b ∷ l) e = absurd (omega arith)
+return_ends [] = refl
+return_ends (b ∷ l) =
+    let x = get_or (b ∷ l) (length (b ∷ l) - 1) 0 in
+    ap (pointwise eqb (13 ∷ [])) (last_byte (b ∷ l) (omega arith)) ∙ and-true (eqb 13 x) ∙ eqb_turned 13 x
 
 -- a number that code does not read is over every limit
 pub size_few : (least most : ℕ) → most ≤ 1_000_000_000 → (o : Option ℕ) → size_in least most (few o) ≡ size_in least most o

@@ -36,10 +36,7 @@ const MOST: usize = 200;
 fn ends_in_return(line: &[u8]) -> bool
     ensures { result ≡ ends_in_return line.now }
 {
-    if line.len() == 0 {
-        return false;
-    }
-    line[line.len() - 1] == b'\r'
+    line.ends_with(b"\r")
 }
 
 // Whether a field spells a float.
@@ -57,14 +54,12 @@ fn floats(line: &[u8], n: usize) -> usize
     requires { n ≡ length (fields_of line.now) }
     ensures { result ≡ wrong_at float_at 0 (fields_of line.now) }
 {
-    let mut k = 0;
-    while k < n {
+    for k in 0..n {
         if !is_float(fields::field(line, k)) {
             return k;
         }
-        k += 1;
     }
-    k
+    n
 }
 
 // Why line 1 sets no head.

@@ -62,12 +62,10 @@ pub fn settings(line: &[u8]) -> usize
     requires { length (fields_of line.now) ≡ 8 }
     ensures { result ≡ wrong_at setting_at 0 (fields_of line.now) }
 {
-    let mut k = 0;
-    while k < 8 {
+    for k in 0..8 {
         if !is_setting(k, fields::field(line, k)) {
             return k;
         }
-        k += 1;
     }
-    k
+    8
 }

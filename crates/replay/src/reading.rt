@@ -9,13 +9,10 @@ pub fn read_full(input: &mut impl Read, buf: &mut [u8]) -> usize
 {
     let mut done = 0;
     while done < buf.len() {
-        let Ok(n) = input.read(&mut buf[done..]) else {
-            break;
-        };
-        if n == 0 {
-            break;
+        match input.read(&mut buf[done..]) {
+            Ok(0) | Err(_) => break,
+            Ok(n) => done += n,
         }
-        done += n;
     }
     done
 }

@@ -10,58 +10,21 @@ ghost use Rattle.arena.specs.Trees.{Floats};
 
 use arena::entries;
 use head::{Counters, Head, Settings};
-use replay::words;
-use replay::words::Word;
+use replay::{Malformed, words};
 use std::io::Read;
 
-#[derive(Clone, Copy)]
-pub enum Outcome {
-    Agrees,
-    Differs,
-    // No vector is left.
-    End,
-    Malformed,
-}
-
-// The first three words of a vector.
-#[derive(Clone, Copy)]
-enum Heading {
-    Of(u64, u64, u64),
-    End,
-    Malformed,
-}
-
-fn begun(input: &mut impl Read) -> Heading {
-    match words::next(input, b' ') {
-        Word::End => Heading::End,
-        Word::Malformed => Heading::Malformed,
-        Word::Number(step) => {
-            let Word::Number(f) = words::next(input, b' ') else {
-                return Heading::Malformed;
-            };
-            let Word::Number(dim) = words::next(input, b' ') else {
-                return Heading::Malformed;
-            };
-            Heading::Of(step, f, dim)
-        }
-    }
-}
-
-// Reads the numbers of p, of which the last ends its line, and answers whether they were there.
-fn fill(input: &mut impl Read, p: &mut [f64]) -> bool {
+// Reads the numbers of p, of which the last ends its line.
+fn fill(input: &mut impl Read, p: &mut [f64]) -> Result<(), Malformed> {
     let n = p.len();
-    for i in 0..n {
+    for (i, x) in p.iter_mut().enumerate() {
         let after = if i + 1 == n { b'\n' } else { b' ' };
-        let Word::Number(bits) = words::next(input, after) else {
-            return false;
-        };
-        p[i] = binary64::of_bits(bits);
+        *x = binary64::of_bits(words::word(input, after)?);
     }
-    true
+    Ok(())
 }
 
 // Reads the numbers of a vector to slots 3 to 5, w floats each: a, b, and a summary or one number.
-fn read(input: &mut impl Read, step: u64, w: usize, floats: &mut [f64]) -> bool
+fn read(input: &mut impl Read, step: u64, w: usize, floats: &mut [f64]) -> Result<(), Malformed>
     requires { (1 ≤ w) × (6 * w ≤ length floats.old) }
 {
     if step < 2 {
@@ -103,12 +66,10 @@ fn measured(step: u64, s: Settings, n: Counters, floats: &[f64]) -> f64
 fn alike(floats: &[f64], p: usize, q: usize, w: usize) -> bool
     requires { (p + w ≤ length floats.now) × (q + w ≤ length floats.now) }
 {
-    for i in 0..w {
-        if !binary64::same(floats[p + i], floats[q + i]) {
-            return false;
-        }
-    }
-    true
+    floats[p..p + w]
+        .iter()
+        .zip(&floats[q..q + w])
+        .all(|(x, y)| binary64::same(*x, *y))
 }
 
 // Takes the step, and answers whether its answer is the Rust's.
@@ -124,39 +85,34 @@ fn agrees(step: u64, s: Settings, n: Counters, floats: &mut [f64]) -> bool
 }
 
 // Reads the numbers of a vector and takes its step.
-fn taken(input: &mut impl Read, step: u64, s: Settings) -> Outcome
+fn taken(input: &mut impl Read, step: u64, s: Settings) -> Result<bool, Malformed>
     requires { Sized s × (s.max_leaves ≡ 1) }
 {
     let n = Counters::new(0.0).with_entries(2);
     let mut floats = [0.0; 102];
-    if !read(input, step, s.slot_width(), &mut floats) {
-        return Outcome::Malformed;
-    }
-    if agrees(step, s, n, &mut floats) {
-        Outcome::Agrees
-    } else {
-        Outcome::Differs
-    }
+    read(input, step, s.slot_width(), &mut floats)?;
+    Ok(agrees(step, s, n, &mut floats))
 }
 
 // The same where the heading's numbers are those of a vector. Steps 2 to 7 and 8 to 13 have the distances in the head's order.
-fn tried(input: &mut impl Read, step: u64, f: u64, dim: u64) -> Outcome {
+fn tried(input: &mut impl Read, step: u64, f: u64, dim: u64) -> Result<bool, Malformed> {
     if step > 14 || f > 1 {
-        return Outcome::Malformed;
+        return Err(Malformed);
     }
     let dist = (step as u32 + 4) % Head::DISTANCES;
     let h = Head::new(dim as usize, 2, 1, 1, f as u32, dist, dist, 0.0);
     if !h.is_allowed() {
-        return Outcome::Malformed;
+        return Err(Malformed);
     }
     taken(input, step, h.settings())
 }
 
-// Reads the next vector and takes its step.
-pub fn next(input: &mut impl Read) -> Outcome {
-    match begun(input) {
-        Heading::Of(step, f, dim) => tried(input, step, f, dim),
-        Heading::End => Outcome::End,
-        Heading::Malformed => Outcome::Malformed,
-    }
+// Reads the next vector, takes its step, and answers whether its answer is the Rust's; none where no vector is left.
+pub fn next(input: &mut impl Read) -> Result<Option<bool>, Malformed> {
+    let Some(step) = words::next(input, b' ')? else {
+        return Ok(None);
+    };
+    let f = words::word(input, b' ')?;
+    let dim = words::word(input, b' ')?;
+    tried(input, step, f, dim).map(Some)
 }

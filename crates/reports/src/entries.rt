@@ -60,11 +60,9 @@ pub fn write_entries(
     ensures { Wrote at (entry_lines s 0 (tree_of s n floats.now links.now).entries) out.old out.new result }
 {
     let mut end = at;
-    let mut i = 0;
-    while i < n.entries {
+    for i in 0..n.entries {
         let e = summary(s, n, floats, i);
         end = write_entry(s, i, e, out, end);
-        i += 1;
     }
     end
 }

@@ -47,10 +47,8 @@ pub fn hexes(xs: &[f64], k: usize, out: &mut [u8], at: usize) -> usize
     ensures { Wrote at (tabbed (map hex_of (take k xs.now))) out.old out.new result }
 {
     let mut end = at;
-    let mut i = 0;
-    while i < k {
-        end = hex(xs[i], out, end);
-        i += 1;
+    for x in &xs[..k] {
+        end = hex(*x, out, end);
     }
     end
 }

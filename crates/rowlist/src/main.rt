@@ -4,7 +4,7 @@
 mod arguments;
 mod messages;
 
-ghost use Rattle.std.specs.Prelude.{length};
+ghost use Rattle.std.specs.Prelude.{length, IfOk};
 ghost use Rattle.lines.specs.Runs.{Room, Reading};
 
 use lines::{Run, Stage};
@@ -12,13 +12,9 @@ use listing::finish::finish;
 use reports::PAGE;
 use std::io::Read;
 
-// What was read of standard input.
-#[derive(Drop)]
-struct Input {
-    run: Run,
-    // To its end, or to a bad line: no read failed.
-    whole: bool,
-}
+// Standard input can't be read to its end.
+#[derive(Clone, Copy)]
+struct Unread;
 
 // Standard input, chunk after chunk, until a line is bad: what follows changes nothing (`bad_chunks_listed` of listing, Chunks).
 // No input has 2^64 chunks, but a loop has to end.
@@ -30,30 +26,22 @@ fn read(
     links: &mut [u32],
     scratch: &mut [f64],
     numbers: &mut [u32],
-) -> Input
+) -> Result<Run, Unread>
     requires { Room (length line.old) (length floats.old) (length links.old) (length scratch.old) (length numbers.old) }
-    ensures { Reading result.run floats.new links.new }
+    ensures { IfOk result (λ run. Reading run floats.new links.new) }
 {
     let mut run = listing::begin();
-    let mut whole = false;
-    let mut chunks: u64 = 0;
-    while chunks < u64::MAX {
-        let Ok(n) = source.read(chunk) else {
-            break;
-        };
+    for _ in 0..u64::MAX {
+        let n = source.read(chunk).map_err(|_| Unread)?;
         if n == 0 {
-            whole = true;
-            break;
+            return Ok(run);
         }
-        run = listing::feed(run, &chunk[0..n], line, floats, links, scratch, numbers);
-        let stage = run.stage;
-        if let Stage::Bad(_) = stage {
-            whole = true;
-            break;
+        run = listing::feed(run, &chunk[..n], line, floats, links, scratch, numbers);
+        if matches!(run.stage, Stage::Bad(_)) {
+            return Ok(run);
         }
-        chunks += 1;
     }
-    Input { run, whole }
+    Err(Unread)
 }
 
 // The listing of standard input. The slices have room for M 24, dim 8, branching and leaf_cap 16.
@@ -66,7 +54,7 @@ fn list(rt: &HostRuntime) {
     let mut scratch = [0.0; 425];
     let mut numbers = [0u32; 75];
     let mut out = [0u8; PAGE];
-    let input = read(
+    let Ok(run) = read(
         &mut rt.stdin(),
         &mut chunk,
         &mut line,
@@ -74,13 +62,12 @@ fn list(rt: &HostRuntime) {
         &mut links,
         &mut scratch,
         &mut numbers,
-    );
-    if !input.whole {
+    ) else {
         let _ = rt.eprint("rowlist: standard input can't be read to its end\n");
         return;
-    }
+    };
     let end = finish(
-        input.run,
+        run,
         &line,
         &mut floats,
         &mut links,

@@ -1,163 +1,77 @@
 // Why a listing is bad: one line on standard error, written at once.
-ghost use Rattle.std.specs.Prelude.{◌≤◌, length};
-ghost use Rattle.io.specs.Counts.{IsPrefixLen};
-
+use arrayvec::ArrayString;
 use lines::{Run, Stage};
 use reasons::Reason;
-use std::io::Result;
+use std::fmt::Write;
+use std::{fmt, io};
 
-// A text behind the first n bytes of a message, as far as there is room; gives the message's length. No message is as long.
-fn put(text: &[u8], message: &mut [u8], n: usize) -> usize
-    requires { n ≤ length message.old }
-    ensures { IsPrefixLen result message.new }
-{
-    let mut long = n;
-    let mut i = 0;
-    while i < text.len() {
-        if long == message.len() {
-            break;
-        }
-        message[long] = text[i];
-        long += 1;
-        i += 1;
-    }
-    long
-}
-
-// A number likewise.
-fn put_number(number: u64, message: &mut [u8], n: usize) -> usize
-    requires { n ≤ length message.old }
-    ensures { IsPrefixLen result message.new }
-{
-    let mut digits = [0u8; 20];
-    let k = io::decimal(number, &mut digits);
-    put(&digits[..k], message, n)
-}
-
-// What field k of line 1, from 1, has to be: a number.
-fn put_size(k: usize, message: &mut [u8], n: usize) -> usize
-    requires { n ≤ length message.old }
-    ensures { IsPrefixLen result message.new }
-{
+// What field k of line 1, from 1, has to be.
+fn setting(k: usize) -> &'static str {
     match k {
-        1 => put(
-            b"field 1 (dim): expected a decimal from 1 to 8, without sign or leading zeros",
-            message,
-            n,
-        ),
-        2 => put(
-            b"field 2 (branching): expected a decimal from 2 to 16, without sign or leading zeros",
-            message,
-            n,
-        ),
-        3 => put(
-            b"field 3 (leaf_cap): expected a decimal from 1 to 16, without sign or leading zeros",
-            message,
-            n,
-        ),
-        _ => put(
-            b"field 4 (M): expected a decimal from 1 to 24, without sign or leading zeros",
-            message,
-            n,
-        ),
+        1 => "field 1 (dim): expected a decimal from 1 to 8, without sign or leading zeros",
+        2 => "field 2 (branching): expected a decimal from 2 to 16, without sign or leading zeros",
+        3 => "field 3 (leaf_cap): expected a decimal from 1 to 16, without sign or leading zeros",
+        4 => "field 4 (M): expected a decimal from 1 to 24, without sign or leading zeros",
+        5 => "field 5 (feature): expected spherical or diagonal",
+        6 => "field 6 (dist): expected euclidean, manhattan, inter, intra, increase or radius",
+        7 => "field 7 (abs): expected euclidean, manhattan, inter, intra, increase or radius",
+        _ => "field 8 (threshold): expected a float of 16 lowercase hex digits",
     }
 }
 
-// What field k of line 1 has to be.
-fn put_setting(k: usize, message: &mut [u8], n: usize) -> usize
-    requires { n ≤ length message.old }
-    ensures { IsPrefixLen result message.new }
-{
-    match k {
-        1..=4 => put_size(k, message, n),
-        5 => put(
-            b"field 5 (feature): expected spherical or diagonal",
-            message,
-            n,
-        ),
-        6 => put(
-            b"field 6 (dist): expected euclidean, manhattan, inter, intra, increase or radius",
-            message,
-            n,
-        ),
-        7 => put(
-            b"field 7 (abs): expected euclidean, manhattan, inter, intra, increase or radius",
-            message,
-            n,
-        ),
-        _ => put(
-            b"field 8 (threshold): expected a float of 16 lowercase hex digits",
-            message,
-            n,
-        ),
+// What of a line is wrong; a row has dim floats.
+#[derive(Clone, Copy)]
+struct Wrong {
+    why: Reason,
+    dim: usize,
+}
+
+impl fmt::Display for Wrong {
+    fn fmt<W: fmt::Write>(&self, f: &mut fmt::Formatter<W>) -> fmt::Result {
+        let dim = self.dim;
+        match self.why {
+            Reason::Long => f.write_str("over 200 bytes"),
+            Reason::Return => {
+                f.write_str("ends in a carriage return; lines end in a newline alone")
+            }
+            Reason::Fields(found) => {
+                write!(f, "fields parted by tabs: expected 8, found {found}")
+            }
+            Reason::Setting(k) => f.write_str(setting(k)),
+            Reason::Threshold => {
+                f.write_str("field 8 (threshold): expected a finite float, not below 0")
+            }
+            Reason::Float(k) => {
+                write!(f, "field {k}: expected a float of 16 lowercase hex digits")
+            }
+            Reason::Shape(found) => {
+                write!(
+                    f,
+                    "SHAPE: floats parted by tabs: expected {dim}, found {found}"
+                )
+            }
+            Reason::Full => { f.write_str("FULL: the tree has 2^53 rows, the most that it takes") }
+        }
     }
 }
 
-// What of the line is wrong; a row has dim floats.
-fn put_reason(why: Reason, dim: usize, message: &mut [u8], n: usize) -> usize
-    requires { n ≤ length message.old }
-    ensures { IsPrefixLen result message.new }
-{
-    match why {
-        Reason::Long => put(b"over 200 bytes", message, n),
-        Reason::Return => put(
-            b"ends in a carriage return; lines end in a newline alone",
+// The reason of a bad run that has ended, and nothing of any other. No message is as long as its room.
+pub fn tell(run: Run, to: &impl Print) -> io::Result<()> {
+    let number = run.number;
+    let mut message = ArrayString::<200>::new();
+    let _ = match run.stage {
+        Stage::First => write!(
             message,
-            n,
+            "rowlist: line {number}: missing, the input is empty\n"
         ),
-        Reason::Fields(found) => {
-            let m = put(b"fields parted by tabs: expected 8, found ", message, n);
-            put_number(found as u64, message, m)
+        Stage::Rows => return Ok(()),
+        Stage::Bad(why) => {
+            let wrong = Wrong {
+                why,
+                dim: run.head.dim,
+            };
+            write!(message, "rowlist: line {number}: {wrong}\n")
         }
-        Reason::Setting(k) => put_setting(k, message, n),
-        Reason::Threshold => put(
-            b"field 8 (threshold): expected a finite float, not below 0",
-            message,
-            n,
-        ),
-        Reason::Float(k) => {
-            let m = put(b"field ", message, n);
-            let m = put_number(k as u64, message, m);
-            put(b": expected a float of 16 lowercase hex digits", message, m)
-        }
-        Reason::Shape(found) => {
-            let m = put(b"SHAPE: floats parted by tabs: expected ", message, n);
-            let m = put_number(dim as u64, message, m);
-            let m = put(b", found ", message, m);
-            put_number(found as u64, message, m)
-        }
-        Reason::Full => put(
-            b"FULL: the tree has 2^53 rows, the most that it takes",
-            message,
-            n,
-        ),
-    }
-}
-
-// Why the run that has ended is bad.
-fn put_why(run: Run, message: &mut [u8], n: usize) -> usize
-    requires { n ≤ length message.old }
-    ensures { IsPrefixLen result message.new }
-{
-    let stage = run.stage;
-    let dim = run.head.dim;
-    let Stage::Bad(why) = stage else {
-        return put(b"missing, the input is empty", message, n);
     };
-    put_reason(why, dim, message, n)
-}
-
-// The reason of a bad run that has ended, and nothing of any other.
-pub fn tell(run: Run, to: &impl Print) -> Result<()> {
-    let stage = run.stage;
-    if let Stage::Rows = stage {
-        return Ok(());
-    }
-    let mut message = [0u8; 200];
-    let n = put(b"rowlist: line ", &mut message, 0);
-    let n = put_number(run.number, &mut message, n);
-    let n = put(b": ", &mut message, n);
-    let n = put_why(run, &mut message, n);
-    let n = put(b"\n", &mut message, n);
-    to.write_all(&message[..n])
+    to.write_all(message.as_bytes())
 }

@@ -1,26 +1,9 @@
 // Lists several inputs: standard input has one after the other, a NUL byte behind each, and an empty line follows each listing.
 #![tactic(auto)]
 
-ghost use Rattle.std.specs.Prelude.{◌≤◌, length};
-
 use replay::reading::read_full;
 use reports::PAGE;
 use std::io;
-
-// Where the input that begins at a place ends: the next NUL byte, or the end.
-fn end_of(bytes: &[u8], from: usize) -> usize
-    requires { from ≤ length bytes.now }
-    ensures { (from ≤ result) × (result ≤ length bytes.now) }
-{
-    let mut i = from;
-    while i < bytes.len() {
-        if bytes[i] == 0 {
-            return i;
-        }
-        i += 1;
-    }
-    i
-}
 
 // The listing of one input.
 fn print_one(rt: &impl Print, input: &[u8], out: &mut [u8]) -> io::Result<()> {
@@ -31,14 +14,9 @@ fn print_one(rt: &impl Print, input: &[u8], out: &mut [u8]) -> io::Result<()> {
 }
 
 // The listings of all inputs, each in the output that the one before left.
-fn print_all(rt: &impl Print, bytes: &[u8], out: &mut [u8]) -> io::Result<()>
-    requires { length bytes.now ≤ 65536 }
-{
-    let mut from = 0;
-    while from < bytes.len() {
-        let end = end_of(bytes, from);
-        print_one(rt, &bytes[from..end], out)?;
-        from = end + 1;
+fn print_all(rt: &impl Print, bytes: &[u8], out: &mut [u8]) -> io::Result<()> {
+    for input in bytes.split_inclusive(|b| *b == 0) {
+        print_one(rt, input.strip_suffix(&[0]).unwrap_or(input), out)?;
     }
     Ok(())
 }

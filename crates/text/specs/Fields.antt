@@ -1,5 +1,10 @@
 -- The fields of a line by the places of its tabs.
-use Rattle.std.specs.Prelude.{ℕ, zero, suc, ◌+◌, ◌-◌, ◌≤◌, ◌<◌, Bool, false, ◌≡◌, refl, eqb}
+use Rattle.std.specs.Prelude.{ℕ, zero, suc, ◌+◌, ◌-◌, ◌≤◌, ◌<◌, Bool, false, cond, ◌≡◌, refl, eqb, Option, count_by}
+use Rattle.std.specs.List.{position, position_or_len}
+use Rattle.std.specs.Option.{unwrap_or}
+use Rattle.std.proofs.lemmas.List.Recursion.{is_position_or_len}
+use Rattle.std.proofs.lemmas.List.Sums.{sum_by-cons}
+use Rattle.std.proofs.lemmas.Grind.{common_steps}
 use Rattle.std.proofs.Math.Bool.{true}
 use mathlib.Core.List.{List, [], ◌∷◌, ◌++◌, reverse, append-nil, reverse_aux-eq}
 use Rattle.std.proofs.Math.Path.{sym, ap}
@@ -86,6 +91,18 @@ tab_in (b ∷ bs) = tab_in_case (eqb b 9) b bs refl (tab_in bs)
 pub end_in : (l : List ℕ) (from : ℕ) → from ≤ length l → from + tab_at (drop from l) ≤ length l
 end_in l from h = omega (arith, tab_in (drop from l), length-drop from l)
 
+-- in std's words
+place_case : (t : Bool) (b : ℕ) (bs : List ℕ) → eqb b 9 ≡ t → tab_at (b ∷ bs) ≡ cond t 0 (1 + tab_at bs)
+place_case true b bs e = tab_yes b bs e
+place_case false b bs e = tab_no b bs e ∙ omega arith
+
+tab-place : (bs : List ℕ) → tab_at bs ≡ position_or_len (λ b. eqb b 9) bs
+unfolding tab_at
+tab-place bs = is_position_or_len tab_at (λ b. eqb b 9) refl (λ b bs. place_case (eqb b 9) b bs refl) bs
+
+pub tab-found : (bs : List ℕ) (r : Option ℕ) → r ≡ position (λ b. eqb b 9) bs → unwrap_or r (length bs) ≡ tab_at bs
+tab-found bs r e = let p = tab-place bs in let l = tab_in bs in grind (arith, common_steps)
+
 -- ---- how many fields
 
 -- the piece before does not count
@@ -98,6 +115,21 @@ count_piece : (bs p q : List ℕ) → length (cut 9 true p bs) ≡ length (cut 9
 unfolding cut
 count_piece [] p q = refl
 count_piece (b ∷ bs) p q = count_case (eqb b 9) b bs p q refl (count_piece bs (b ∷ p) (b ∷ q))
+
+-- one more than there are tabs
+tab_case : (t : Bool) (b : ℕ) (bs p : List ℕ) → eqb b 9 ≡ t → ((q : List ℕ) → length (cut 9 true q bs) ≡ count_by (λ b. eqb b 9) bs + 1)
+    → length (cut 9 true p (b ∷ bs)) ≡ cond t 1 0 + count_by (λ b. eqb b 9) bs + 1
+tab_case true b bs p e k = let n = k [] in ap length (cut_yes 9 true b bs p e) ∙ omega arith
+tab_case false b bs p e k = let n = k (b ∷ p) in ap length (cut_no 9 true b bs p e) ∙ omega arith
+
+tabs : (bs p : List ℕ) → length (cut 9 true p bs) ≡ count_by (λ b. eqb b 9) bs + 1
+unfolding cut
+tabs [] p = refl
+tabs (b ∷ bs) p = tab_case (eqb b 9) b bs p refl (tabs bs) ∙ ap (λ n. n + 1) (sym (sum_by-cons (λ b. cond (eqb b 9) 1 0) b bs))
+
+pub tabs_counted : (l : List ℕ) → length (fields_of l) ≡ count_by (λ b. eqb b 9) l + 1
+unfolding fields_of
+tabs_counted l = tabs l []
 
 -- the fields from place i on
 unfoldable pub count_from : List ℕ → ℕ → ℕ

@@ -4,6 +4,7 @@ use Rattle.std.proofs.Math.Bool.{cond, and-false}
 use Rattle.std.proofs.Math.Path.{refl, ap}
 use Rattle.std.proofs.Common.{◌∙◌, eq-eqb, ne_eqb}
 use Prim.Native.String.{String}
+use lib.Pointwise.{pointwise}
 use Rattle.rules.specs.Listing.{bytes, same, word_at}
 use Rattle.text.specs.Places.{from_here, from_end}
 
@@ -13,6 +14,13 @@ same_long [] [] h = absurd (h refl)
 same_long [] (y ∷ b) h = refl
 same_long (x ∷ a) [] h = refl
 same_long (x ∷ a) (y ∷ b) h = rw (same_long a b (λ e. h (ap suc e))) (and-false (eqb x y))
+
+pub same-equal : (a b : List ℕ) → pointwise eqb a b ≡ same a b
+unfolding same
+same-equal [] [] = refl
+same-equal [] (y ∷ b) = refl
+same-equal (x ∷ a) [] = refl
+same-equal (x ∷ a) (y ∷ b) = ap (λ t. eqb x y && t) (same-equal a b)
 
 module _ (a b : List ℕ) (i : ℕ) where
   -- from letter i on

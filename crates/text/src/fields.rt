@@ -8,15 +8,7 @@ pub fn field_count(line: &[u8]) -> usize
     requires { length line.now ≤ 200 }
     ensures { result ≡ length (fields_of line.now) }
 {
-    let mut n = 1;
-    let mut i = 0;
-    while i < line.len() {
-        if line[i] == b'\t' {
-            n += 1;
-        }
-        i += 1;
-    }
-    n
+    line.iter().filter(|b| **b == b'\t').count() + 1
 }
 
 // Where the field that begins at a place ends: the next tab, or the end of the line.
@@ -24,14 +16,8 @@ fn end_of(line: &[u8], from: usize) -> usize
     requires { from ≤ length line.now }
     ensures { result ≡ from + tab_at (drop from line.now) }
 {
-    let mut i = from;
-    while i < line.len() {
-        if line[i] == b'\t' {
-            return i;
-        }
-        i += 1;
-    }
-    i
+    let rest = &line[from..];
+    from + rest.iter().position(|b| *b == b'\t').unwrap_or(rest.len())
 }
 
 // Field k.
@@ -40,10 +26,8 @@ pub fn field(line: &[u8], k: usize) -> &[u8]
     ensures { result.now ≡ get_or (fields_of line.now) k [] }
 {
     let mut from = 0;
-    let mut j = 0;
-    while j < k {
+    for _ in 0..k {
         from = end_of(line, from) + 1;
-        j += 1;
     }
     let end = end_of(line, from);
     &line[from..end]

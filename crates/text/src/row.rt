@@ -10,13 +10,11 @@ fn floats(line: &[u8], dim: usize, row: &mut [f64]) -> RowLine
     requires { (length (fields_of line.now) ≡ dim) × (dim ≤ length row.old) }
     ensures { RowRead dim (hex_floats (fields_of line.now)) row.old row.new result }
 {
-    let mut k = 0;
-    while k < dim {
+    for k in 0..dim {
         let Real::Is(x) = numbers::hex_float(fields::field(line, k)) else {
             return RowLine::Malformed;
         };
         row[k] = x;
-        k += 1;
     }
     RowLine::Row
 }

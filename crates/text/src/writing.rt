@@ -19,15 +19,13 @@ fn places(n: u64) -> usize
     ensures { result ≡ places_of 19 n }
 {
     let mut rest = n;
-    let mut k = 1;
-    while k < 20 {
+    for k in 1..20 {
         if rest < 10 {
             return k;
         }
         rest = rest / 10;
-        k += 1;
     }
-    k
+    20
 }
 
 // The last k digits of n in a base.
@@ -36,9 +34,7 @@ fn digits(k: usize, base: u64, n: u64, out: &mut [u8], at: usize)
     ensures { out.new ≡ written at (digits_of k base n []) out.old }
 {
     let mut rest = n;
-    let mut i = k;
-    while i > 0 {
-        i -= 1;
+    for i in (0..k).rev() {
         out[at + i] = letter(rest % base);
         rest = rest / base;
     }

@@ -12,7 +12,7 @@ returns c =
     no_head a.run _ c.bad.ensures a.bytes.now a.floats.now a.links.now c.requires.2
     (first_none _ (sym c.first_line.ensures ∙ c.in_default.is))
 
-create-requires : tie.Need-create-head-requires
+create-requires : tie.Need-create-requires
 create-requires c κs =
     let a = c.args in
     roomy _ (first_taken a.bytes.now _ (first_some _ _ (sym c.first_line.ensures ∙ c.in-Head.is))) a.floats.now a.links.now
@@ -23,7 +23,7 @@ returns-2 c =
     let a = c.args in
     let e = first_some _ _ (sym c.first_line.ensures ∙ c.in-Head.is) in
     created_read _ (first_taken a.bytes.now _ e) a.floats.now a.links.now c.requires.0 c.requires.1 a.run a.bytes.now e _
-    c.create-head.ensures
+    c.create.ensures
 
 pub read_first_spec : {M : Type 1} → statement M
 read_first_spec =

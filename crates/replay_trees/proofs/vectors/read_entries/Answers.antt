@@ -9,8 +9,8 @@ overflow_mul-slot g c =
     let w : c.slot_width.result ≤ 17 = rw c.slot_width.ensures (slot_small c.args.s c.requires) in
     let p : c.node_cap.result * c.slot_width.result ≤ 33153 * 17 = mul-le-mul n w in omega arith
 
-pub loop-i-init : goal.loop-i-init
-loop-i-init g c =
+pub loop-init : goal.loop-init
+loop-init g c =
     let n : c.node_cap.result ≤ 33153 = rw c.node_cap.ensures (nodes_small c.args.s c.requires) in
     let w : c.slot_width.result ≤ 17 = rw c.slot_width.ensures (slot_small c.args.s c.requires) in
     let p : c.node_cap.result * c.slot_width.result ≤ 33153 * 17 = mul-le-mul n w in omega arith
@@ -20,7 +20,7 @@ overflow_add-slot g c =
     let w = slot_small c.args.s c.requires in
     let e = c.slot_width-slot.ensures in omega arith
 
-pub loop-i-preserved : goal.loop-i-preserved
-loop-i-preserved g c =
+pub loop-preserved : goal.loop-preserved
+loop-preserved g c =
     let w = slot_small c.args.s c.requires in
     let e = c.slot_width-slot.ensures in omega arith

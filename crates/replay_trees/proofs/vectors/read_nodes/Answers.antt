@@ -12,8 +12,8 @@ overflow_add-block g c =
     let w = block_small c.args.s c.requires in
     let e = c.block_width-block.ensures in omega arith
 
-pub loop-i-preserved : goal.loop-i-preserved
-loop-i-preserved g c =
+pub loop-preserved : goal.loop-preserved
+loop-preserved g c =
     let w = slot_small c.args.s c.requires in
     let e = c.slot_width-slot.ensures in
     let v = block_small c.args.s c.requires in

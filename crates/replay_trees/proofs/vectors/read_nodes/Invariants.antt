@@ -2,5 +2,5 @@
 use Rattle.std.proofs.Common.{◌*◌, ◌≤◌}
 use Rattle.replay_trees.proofs.vectors.read_nodes.Given as goal
 
-abbrev pub invariant-loop-i : goal.invariant-loop-i
-invariant-loop-i g l = (l.slot ≤ 17 * l.i) × (l.block ≤ 19 * l.i)
+abbrev pub invariant-loop : goal.invariant-loop
+invariant-loop g l = (l.slot ≤ 17 * l.counter) × (l.block ≤ 19 * l.counter)

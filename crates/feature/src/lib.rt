@@ -45,7 +45,8 @@ pub fn slots(f: Feature, dim: usize) -> usize
 }
 
 // The first dim means, each moved towards x by factor. Here and below loops run to the constant 8, which compilers unroll: a push
-// took a fifth longer with loops to dim.
+// took a fifth longer with loops to dim, and a quarter longer where these three were called and not inlined.
+#[inline(always)]
 pub fn shift(dim: usize, factor: f64, mean: &mut [f64], x: &[f64])
     requires { (dim ≤ 8) × (dim ≤ length mean.old) × (dim ≤ length x.now) }
     ensures { mean.new ≡ up_to (moved_at factor mean.old x.now) dim mean.old }
@@ -59,6 +60,7 @@ pub fn shift(dim: usize, factor: f64, mean: &mut [f64], x: &[f64])
 }
 
 // The first dim deviations, each with what a step of its mean towards x adds.
+#[inline(always)]
 fn widen(dim: usize, coef: f64, mean: &[f64], deviation: &mut [f64], x: &[f64])
     requires { (dim ≤ 8) × (dim ≤ length mean.now) × (dim ≤ length deviation.old) × (dim ≤ length x.now) }
     ensures { deviation.new ≡ up_to (added_at coef mean.now deviation.old x.now) dim deviation.old }
@@ -72,6 +74,7 @@ fn widen(dim: usize, coef: f64, mean: &[f64], deviation: &mut [f64], x: &[f64])
 }
 
 // The deviations after a step of the mean towards x.
+#[inline(always)]
 #[tactic(auto, unfolding(crate::specs::Steps::deviated))]
 pub fn deviate(f: Feature, dim: usize, coef: f64, mean: &[f64], deviation: &mut [f64], x: &[f64])
     requires { Dim dim × (dim ≤ length mean.now) × (dim ≤ length deviation.old) × (dim ≤ length x.now) }

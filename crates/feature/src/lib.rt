@@ -44,29 +44,37 @@ pub fn slots(f: Feature, dim: usize) -> usize
     }
 }
 
-// The first dim means, each moved towards x by factor.
+// The first dim means, each moved towards x by factor. Here and below loops run to the constant 8, which compilers unroll: a push
+// took a fifth longer with loops to dim, and a quarter longer where these three were called and not inlined.
+#[inline(always)]
 pub fn shift(dim: usize, factor: f64, mean: &mut [f64], x: &[f64])
-    requires { (dim ≤ length mean.old) × (dim ≤ length x.now) }
+    requires { (dim ≤ 8) × (dim ≤ length mean.old) × (dim ≤ length x.now) }
     ensures { mean.new ≡ up_to (moved_at factor mean.old x.now) dim mean.old }
 {
-    for i in 0..dim {
-        let d = x[i] - mean[i];
-        mean[i] = mean[i] + factor * d;
+    for i in 0..8 {
+        if i < dim {
+            let d = x[i] - mean[i];
+            mean[i] = mean[i] + factor * d;
+        }
     }
 }
 
 // The first dim deviations, each with what a step of its mean towards x adds.
+#[inline(always)]
 fn widen(dim: usize, coef: f64, mean: &[f64], deviation: &mut [f64], x: &[f64])
-    requires { (dim ≤ length mean.now) × (dim ≤ length deviation.old) × (dim ≤ length x.now) }
+    requires { (dim ≤ 8) × (dim ≤ length mean.now) × (dim ≤ length deviation.old) × (dim ≤ length x.now) }
     ensures { deviation.new ≡ up_to (added_at coef mean.now deviation.old x.now) dim deviation.old }
 {
-    for i in 0..dim {
-        let d = x[i] - mean[i];
-        deviation[i] = deviation[i] + coef * d * d;
+    for i in 0..8 {
+        if i < dim {
+            let d = x[i] - mean[i];
+            deviation[i] = deviation[i] + coef * d * d;
+        }
     }
 }
 
 // The deviations after a step of the mean towards x.
+#[inline(always)]
 #[tactic(auto, unfolding(crate::specs::Steps::deviated))]
 pub fn deviate(f: Feature, dim: usize, coef: f64, mean: &[f64], deviation: &mut [f64], x: &[f64])
     requires { Dim dim × (dim ≤ length mean.now) × (dim ≤ length deviation.old) × (dim ≤ length x.now) }
@@ -83,11 +91,13 @@ pub fn deviate(f: Feature, dim: usize, coef: f64, mean: &[f64], deviation: &mut 
 
 // The first n deviations of a, each with b's.
 fn add(n: usize, a: &mut [f64], b: &[f64])
-    requires { (n ≤ length a.old) × (n ≤ length b.now) }
+    requires { (n ≤ 8) × (n ≤ length a.old) × (n ≤ length b.now) }
     ensures { a.new ≡ up_to (both_at a.old b.now) n a.old }
 {
-    for i in 0..n {
-        a[i] = a[i] + b[i];
+    for i in 0..8 {
+        if i < n {
+            a[i] = a[i] + b[i];
+        }
     }
 }
 

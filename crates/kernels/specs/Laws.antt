@@ -1,5 +1,5 @@
 -- What the two combinations give: at each channel, when a rule is replaced by another, and in a loop over the channels.
-use Rattle.std.specs.Prelude.{◌≡◌, refl, List, ℕ, zero, suc, ◌+◌, ◌<◌, ◌≤◌, length, set, take, drop, ◌-◌, ◌++◌, Float}
+use Rattle.std.specs.Prelude.{◌≡◌, refl, List, ℕ, zero, suc, ◌+◌, ◌<◌, ◌≤◌, length, set, min, take, drop, ◌-◌, ◌++◌, Float}
 use Rattle.std.proofs.Common.{sym, ap, ap₂, ◌∙◌, ⊎_elim, ne_of_lt, eq-or-lt_of_le, arith, length-set, length-append, length-drop, length-take-le, get_or-take, get_or-drop, ext_get_or, get_or-set_same, get_or-set_other}
 use Rattle.std.proofs.lemmas.Bool.{cases_lt}
 use Rattle.std.proofs.lemmas.List.{get_or-append_right}
@@ -30,17 +30,25 @@ up_to-below f (suc i) l k b h =
     (λ (g : k < i). get_or-set_other (up_to f i l) i k (f i) nan (ne_of_lt g) ∙ up_to-below f i l k (omega arith) g)
     (eq-or-lt_of_le (omega arith))
 
--- one channel more, in a loop that reads the place that it writes
-pub up_to-none : (f : ℕ → Float) (l : List Float) → up_to f 0 l ≡ l
-unfolding up_to
-up_to-none f l = refl
+-- ---- a loop over all 8 channels whose turn i acts where i is below n: m after i turns, which may read the place that it writes
+module _ (f : ℕ → Float) (n : ℕ) (l : List Float) where
+  pub turns_none : l ≡ up_to f (min 0 n) l
+  unfolding up_to
+  turns_none = let z : min 0 n ≡ 0 = omega arith in rw z
 
-pub up_to_unread : (f : ℕ → Float) (i : ℕ) (l m : List Float) → m ≡ up_to f i l → at m i ≡ at l i
-up_to_unread f i l m e = ap (λ x. at x i) e ∙ up_to_past f i l i (omega arith)
+  module _ (i : ℕ) (m : List Float) (e : m ≡ up_to f (min i n) l) where
+    pub turn_unread : at m i ≡ at l i
+    turn_unread = ap (λ x. at x i) e ∙ up_to_past f (min i n) l i (omega arith)
 
-pub up_to_next : (f : ℕ → Float) (i : ℕ) (l m : List Float) (x : Float) → m ≡ up_to f i l → x ≡ f i → set m i x ≡ up_to f (i + 1) l
-unfolding up_to
-up_to_next f i l m x e q = let z : i + 1 ≡ suc i = omega arith in rw (e, q, z)
+    pub turn_acts : (x : Float) → i < n → x ≡ f i → set m i x ≡ up_to f (min (i + 1) n) l
+    unfolding up_to
+    turn_acts x h q = let a : min i n ≡ i = omega arith in let b : min (i + 1) n ≡ suc i = omega arith in rw (e, q, a, b)
+
+    pub turn_rests : n ≤ i → m ≡ up_to f (min (i + 1) n) l
+    turn_rests h = e ∙ ap (λ k. up_to f k l) (omega arith)
+
+    pub turns_end : n ≤ i → m ≡ up_to f n l
+    turns_end h = e ∙ ap (λ k. up_to f k l) (omega arith)
 
 -- two rules that agree below n give one list
 pub up_to-same : (f g : ℕ → Float) (n : ℕ) (l : List Float) → ((k : ℕ) → k < n → f k ≡ g k) → up_to f n l ≡ up_to g n l

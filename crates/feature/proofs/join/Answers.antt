@@ -10,7 +10,7 @@ add-requires c =
     let n = c.slots.ensures in
     let a : length c.args.s.deviation ≡ 8 = search rules in
     let b : length c.args.o.deviation ≡ 8 = search rules in
-    (omega arith, omega arith)
+    (omega arith, omega arith, omega arith)
 
 pub returns : goal.returns
 unfolding blended

@@ -12,7 +12,7 @@ use head::Head;
 use reasons::Reason;
 use text::heads::first_line;
 use text::row::row_line;
-use text::{First, RowLine};
+use text::RowLine;
 use work::Work;
 use work::change::change;
 
@@ -100,7 +100,7 @@ fn read_first(run: Run, bytes: &[u8], floats: &mut [f64], links: &mut [u32]) -> 
     ensures { LineRead (printed_of Stages.First run floats.old links.old) bytes.now result
         floats.new links.new }
 {
-    let First::Head(h) = first_line(bytes) else {
+    let Some(h) = first_line(bytes) else {
         return bad(run, reasons::first(bytes));
     };
     Run {

@@ -11,7 +11,7 @@ use Rattle.head.specs.Heads.{new_head, new_counters}
 use Rattle.head.specs.Limits.{within, sizes_within, choices_within, threshold_within, allowed, both}
 use Rattle.rules.specs.Listing.{fields_of, decimal, feature_word, distance_word, hex_float, hex_floats, bytes, same, word_at, taken, first_line}
 use Rattle.text.specs.declared.RowLine.TheVariants.{Malformed}
-use Rattle.text.specs.Firsts.{SizesRead, ChoicesRead, goes, head-is, is-taken, line-eight}
+use Rattle.text.specs.Firsts.{goes, head-is, is-taken, line-eight}
 use Rattle.text.specs.Rows.{RowRead, floats_in, floats_short}
 use Rattle.reasons.specs.declared.Reason.{Reason}
 use Rattle.reasons.specs.declared.Reason.TheVariants as R
@@ -48,7 +48,6 @@ isnt true h = absurd (h refl)
 isnt false h = refl
 
 some_is : {A : Type 0} (o : Option A) → is_some o ≡ true → (a : A) × (o ≡ Some a)
-unfolding is_some
 some_is None e = absurd (false≢true e)
 some_is (Some a) e = (a, refl)
 
@@ -138,7 +137,7 @@ Wrong l = (x : Float) × (hex_float (get_or (fields_of l) 7 []) ≡ Some x) × (
 
 -- eight fields that are as asked, and no head: the threshold's value is wrong
 eight_wrong : (l : List ℕ) → length l ≤ 200 → length (fields_of l) ≡ 8 → 8 ≤ wrong_at setting_at 0 (fields_of l) → first_line l ≡ None → Wrong l
-unfolding setting_at SizesRead ChoicesRead
+unfolding setting_at
 eight_wrong l short n h none-set =
     let fs = fields_of l in
     let right : (i : ℕ) → i < 8 → setting_at (0 + i) (get_or fs i []) ≡ true = λ i k. all_right setting_at fs 0 i (omega arith) (omega arith) in
@@ -150,7 +149,7 @@ eight_wrong l short n h none-set =
     let (g, g₁) = some_is (distance_word (get_or fs 5 [])) (right 5 (omega arith)) in
     let (a, a₁) = some_is (distance_word (get_or fs 6 [])) (right 6 (omega arith)) in
     let (x, x₁) = some_is (hex_float (get_or fs 7 [])) (right 7 (omega arith)) in
-    let set = line-eight l short n ∙ head-is fs d b c m f g a x (d₁, b₁, c₁, m₁) (f₁, g₁, a₁) x₁ in (
+    let set = line-eight l short n ∙ head-is fs d b c m f g a x d₁ b₁ c₁ m₁ f₁ g₁ a₁ x₁ in (
       x,
       x₁,
       isnt (threshold_within x) λ w. none-some _ (sym none-set ∙ set

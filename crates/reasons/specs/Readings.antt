@@ -4,7 +4,7 @@ use Prim.Native.String.{String}
 use Rattle.rules.specs.Computes.{computes}
 use Rattle.rules.specs.Listing.{bytes}
 use Rattle.reasons.specs.declared.Reason.TheVariants as R
-use Rattle.reasons.specs.Reasons.{ends_in_return, is_some, size_in, setting_at, float_at, wrong_at, reason_of, first_reason, row_reason}
+use Rattle.reasons.specs.Reasons.{ends_in_return, size_in, setting_at, float_at, wrong_at, reason_of, first_reason, row_reason}
 
 -- words parted by tabs
 unfoldable tabbed : List String → List ℕ
@@ -18,7 +18,7 @@ line dim most feature threshold =
     tabbed (dim ∷ "2" ∷ "4" ∷ most ∷ feature ∷ "euclidean" ∷ "radius" ∷ threshold ∷ [])
 
 unfoldable reasons : Unit {0}
-unfolding computes tabbed ends_in_return is_some size_in setting_at float_at wrong_at reason_of first_reason row_reason
+unfolding computes tabbed ends_in_return size_in setting_at float_at wrong_at reason_of first_reason row_reason
 reasons = tt
 
 first-reasons :

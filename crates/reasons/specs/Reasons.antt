@@ -1,5 +1,6 @@
 -- The first rule that a bad line breaks.
 use Rattle.std.specs.Prelude.{ℕ, zero, suc, ◌+◌, ◌-◌, ◌≤◌, ◌<◌, Bool, true, false, cond, ◌&&◌, ◌≡◌, refl, ltb, eqb, length, get_or, Option, None, Some}
+pub use Rattle.std.specs.Prelude.{is_some}
 use Rattle.std.proofs.Math.Bool.{and-false, and-true}
 use lib.Pointwise.{pointwise}
 use Rattle.std.specs.List.{ends_with}
@@ -19,11 +20,6 @@ use Rattle.reasons.specs.declared.Reason.TheVariants as R
 
 unfoldable pub ends_in_return : List ℕ → Bool
 ends_in_return l = eqb (get_or l (length l - 1) 0) 13
-
-module _ {A : Type 0} where
-  unfoldable pub is_some : Option A → Bool
-  is_some None = false
-  is_some (Some a) = true
 
 -- ---- one field
 

@@ -7,7 +7,7 @@ ghost use Rattle.std.specs.Prelude.{◌≡◌, length};
 ghost use Rattle.rules.specs.Listing.{fields_of, hex_float};
 ghost use Rattle.reasons.specs.Reasons.{ends_in_return, is_some, wrong_at, float_at, first_reason, row_reason};
 
-use text::{Real, fields, numbers};
+use text::{fields, numbers};
 
 #[derive(Clone, Copy)]
 pub enum Reason {
@@ -43,10 +43,7 @@ fn ends_in_return(line: &[u8]) -> bool
 pub fn is_float(field: &[u8]) -> bool
     ensures { result ≡ is_some (hex_float field.now) }
 {
-    let Real::Is(_) = numbers::hex_float(field) else {
-        return false;
-    };
-    true
+    numbers::hex_float(field).is_some()
 }
 
 // The first of a line's fields that is no float, or the end.

@@ -4,7 +4,7 @@ ghost use Rattle.rules.specs.Listing.{fields_of, decimal, feature_word, distance
 ghost use Rattle.reasons.specs.Reasons.{is_some, size_in, setting_at, wrong_at};
 
 use head::Head;
-use text::{Number, Word, fields, numbers, words};
+use text::{fields, numbers, words};
 
 // A listing's M goes up to 24.
 const MOST_LEAVES: usize = 24;
@@ -14,7 +14,7 @@ fn is_size(field: &[u8], least: usize, most: usize) -> bool
     requires { most ≤ 1000000000 }
     ensures { result ≡ size_in least most (decimal field.now) }
 {
-    let Number::Is(n) = numbers::decimal(field) else {
+    let Some(n) = numbers::decimal(field) else {
         return false;
     };
     if n < least as u64 {
@@ -26,19 +26,13 @@ fn is_size(field: &[u8], least: usize, most: usize) -> bool
 fn is_feature(field: &[u8]) -> bool
     ensures { result ≡ is_some (feature_word field.now) }
 {
-    let Word::Is(_) = words::feature_word(field) else {
-        return false;
-    };
-    true
+    words::feature_word(field).is_some()
 }
 
 fn is_distance(field: &[u8]) -> bool
     ensures { result ≡ is_some (distance_word field.now) }
 {
-    let Word::Is(_) = words::distance_word(field) else {
-        return false;
-    };
-    true
+    words::distance_word(field).is_some()
 }
 
 // Whether a field spells what stands at place k of line 1.

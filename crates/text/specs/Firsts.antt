@@ -3,37 +3,14 @@ use Rattle.std.specs.Prelude.{ℕ, ◌≤◌, ◌<◌, Bool, true, false, ◌&&�
 use Rattle.std.proofs.lemmas.Option.{none-some, same_Some}
 use Rattle.std.proofs.Common.{sym}
 use Rattle.std.proofs.Math.Bool.{cond, and-false}
-use Rattle.std.proofs.Math.Path.{refl, ap, subst}
+use Rattle.std.proofs.Math.Path.{refl, ap}
 use Rattle.std.proofs.Common.{◌∙◌, arith, le-leb, leb-false, eq-eqb, ne_eqb}
 use Rattle.std.proofs.lemmas.Bool.{lt-leb}
 use Rattle.head.specs.declared.Head.{Head}
 use Rattle.head.specs.Heads.{new_head, settings_of}
 use Rattle.head.specs.Limits.{Sized, allowed, allowed-sized}
 use Rattle.rules.specs.Listing.{and_then, fields_of, fields_in, decimal, feature_word, distance_word, hex_float, taken, head_from, first_line}
-use Rattle.text.specs.declared.Sizes.{Sizes}
-use Rattle.text.specs.declared.Sizes.TheVariants as S
-use Rattle.text.specs.declared.Choices.{Choices}
-use Rattle.text.specs.declared.Choices.TheVariants as C
 use Rattle.text.specs.Told.{few}
-
--- what the two answers say
-unfoldable pub SizesRead : List (List ℕ) → Sizes → Type 0
-SizesRead fs (S.Are d b l m) =
-    (decimal (get_or fs 0 []) ≡ Some d) × (decimal (get_or fs 1 []) ≡ Some b) × (decimal (get_or fs 2 []) ≡ Some l) × (decimal (get_or fs 3 []) ≡ Some m)
-SizesRead fs S.Malformed = head_from fs ≡ None
-
-unfoldable pub ChoicesRead : List (List ℕ) → Choices → Type 0
-ChoicesRead fs (C.Are f d a) = (feature_word (get_or fs 4 []) ≡ Some f) × (distance_word (get_or fs 5 []) ≡ Some d) × (distance_word (get_or fs 6 []) ≡ Some a)
-ChoicesRead fs C.Malformed = head_from fs ≡ None
-
-module _ (fs : List (List ℕ)) where
-  pub sizes_none : (r : Sizes) → SizesRead fs r → r ≡ S.Malformed → head_from fs ≡ None
-  unfolding SizesRead
-  sizes_none r h e = subst (SizesRead fs) e h
-
-  pub choices_none : (r : Choices) → ChoicesRead fs r → r ≡ C.Malformed → head_from fs ≡ None
-  unfolding ChoicesRead
-  choices_none r h e = subst (ChoicesRead fs) e h
 
 -- ---- one after the other
 
@@ -161,11 +138,13 @@ module _ (fs : List (List ℕ)) where
       then_none _ _ λ d. then_none _ _ λ b. then_none _ _ λ l. then_none _ _ λ m. then_none _ _ λ f. then_none _ _ λ g. then_none _ _ λ a. stops _ _ e
 
   -- all eight read
-  pub head-is : (d b l m f g a : ℕ) (x : Float) → SizesRead fs (S.Are d b l m) → ChoicesRead fs (C.Are f g a) → hex_float (get_or fs 7 []) ≡ Some x
+  pub head-is : (d b l m f g a : ℕ) (x : Float) → decimal (get_or fs 0 []) ≡ Some d → decimal (get_or fs 1 []) ≡ Some b
+      → decimal (get_or fs 2 []) ≡ Some l → decimal (get_or fs 3 []) ≡ Some m → feature_word (get_or fs 4 []) ≡ Some f
+      → distance_word (get_or fs 5 []) ≡ Some g → distance_word (get_or fs 6 []) ≡ Some a → hex_float (get_or fs 7 []) ≡ Some x
       → head_from fs ≡ taken (new_head d b l m f g a x)
-  unfolding head_from SizesRead ChoicesRead
-  head-is d b l m f g a x s c e =
-      goes _ _ d s.0 ∙ goes _ _ b s.1 ∙ goes _ _ l s.2 ∙ goes _ _ m s.3 ∙ goes _ _ f c.0 ∙ goes _ _ g c.1 ∙ goes _ _ a c.2 ∙ goes _ _ x e
+  unfolding head_from
+  head-is d b l m f g a x e0 e1 e2 e3 e4 e5 e6 e7 =
+      goes _ _ d e0 ∙ goes _ _ b e1 ∙ goes _ _ l e2 ∙ goes _ _ m e3 ∙ goes _ _ f e4 ∙ goes _ _ g e5 ∙ goes _ _ a e6 ∙ goes _ _ x e7
 
 -- ---- the line
 

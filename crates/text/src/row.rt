@@ -3,7 +3,7 @@ ghost use Rattle.std.specs.Prelude.{◌≡◌, ◌≤◌, length};
 ghost use Rattle.rules.specs.Listing.{fields_of, hex_floats};
 ghost use Rattle.text.specs.Rows.{RowRead, floats_in};
 
-use crate::{Real, RowLine, fields, numbers};
+use crate::{RowLine, fields, numbers};
 
 // The floats of a line of dim fields, to the front of a row.
 fn floats(line: &[u8], dim: usize, row: &mut [f64]) -> RowLine
@@ -11,7 +11,7 @@ fn floats(line: &[u8], dim: usize, row: &mut [f64]) -> RowLine
     ensures { RowRead dim (hex_floats (fields_of line.now)) row.old row.new result }
 {
     for k in 0..dim {
-        let Real::Is(x) = numbers::hex_float(fields::field(line, k)) else {
+        let Some(x) = numbers::hex_float(fields::field(line, k)) else {
             return RowLine::Malformed;
         };
         row[k] = x;

@@ -1,6 +1,6 @@
 -- The verdict and the conditions by name: a tree passes exactly where each holds.
-use Rattle.std.specs.Prelude.{ℕ, suc, ◌≤◌, ◌≡◌, refl, Bool, true, false, ◌&&◌, List, [], ◌∷◌, T, leb, length, Ok}
-use Rattle.std.proofs.Common.{arith, leb-true}
+use Rattle.std.specs.Prelude.{◌≤◌, ◌≡◌, refl, Bool, true, false, ◌&&◌, List, [], ◌∷◌, T, leb, length, Ok}
+use Rattle.std.proofs.Common.{leb-true}
 use Rattle.std.specs.Float.Ieee.Bits.{is_true}
 use Rattle.binary64.specs.Whole.{most}
 use Rattle.binary64.specs.Counts.{is_count}

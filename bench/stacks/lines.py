@@ -11,6 +11,7 @@ from .listing import told
 from .state import Unknown
 
 # a compile each: functions, their mark and line; of a kernel only the additions count
+# (the additions stand in kernels::sum, which these two lend a closure: they are theirs where it is inlined into them)
 SUMS = {"kernels::sq_euclidean": ("sum", 2), "kernels::manhattan": ("sum", 2)}
 PARTS = {"rebuild::rebuild": ("rebuild", 2), "refit::refit": ("refit", 3),
          "insert::insert": ("insert", 4), "insert::insert_all": ("insert", 4)}

@@ -6,7 +6,7 @@ from .state import Unknown
 # The one function that calls itself: the fold of a list by halves. A list of one is copied, a longer one is halved, the back
 # half the larger where they differ: a list of 16 takes 5 activations at most, of 16, 8, 4, 2 and 1, and one of 17 would take 6.
 # None of 17 is folded, though refold's own contract does not say so: both callers, a rebuild (`merged-standing`) and a refit
-# (`rounds-standing`), hand over a tree with right `Links` and nothing over, whose `caps` keep each list within its cap, 16 at most.
+# (`rounds_standing`), hand over a tree with right `Links` and nothing over, whose `caps` keep each list within its cap, 16 at most.
 # It joins two summaries only where the list has two or more, and that is the fourth activation at most.
 FOLD, ACTIVATIONS, JOINING = "refold::fold::fold_balanced", 5, 4
 

@@ -15,6 +15,7 @@ pub fn widen(widest: f64, gap: f64) -> f64
 }
 
 // The widest gap times 1 + 2^−50, at most the largest float, if that is larger.
+#[tactic(auto, unfolding(rules::specs::Rebuild::grown_threshold))]
 pub fn grown(threshold: f64, widest: f64) -> f64
     ensures { result ≡ grown_threshold threshold widest }
 {

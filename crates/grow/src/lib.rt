@@ -70,13 +70,14 @@ fn try_absorb(
     ensures links_after { tree_of s result floats.new links.new ≡ placed (row_item s row.now) leaf (tree_of s n floats.old links.old) }
 {
     let near = search_leaf(s, n, floats, links::list(s, n, links, leaf), row);
-    match near {
-        Some(e) if absorbs(s, n, floats, e, row) => {
-            entries::push(s, n, floats, e, row);
-            n
-        }
-        _ => begin(s, n, floats, links, leaf, form::alone(s, Lent::Row(row))),
+    let Some(e) = near else {
+        return begin(s, n, floats, links, leaf, form::alone(s, Lent::Row(row)));
+    };
+    if absorbs(s, n, floats, e, row) {
+        entries::push(s, n, floats, e, row);
+        return n;
     }
+    begin(s, n, floats, links, leaf, form::alone(s, Lent::Row(row)))
 }
 
 // Nodes over their caps split, from node i up; most often none is.

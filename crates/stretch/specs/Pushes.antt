@@ -1,15 +1,16 @@
 -- A slot written part by part: what a store, a fill and a push in place leave.
-use Prim.Native.Nat.{ℕ, suc, ◌+◌, ◌-◌, ◌≤◌}
+use Prim.Native.Nat.{ℕ, suc, ◌+◌, ◌-◌, ◌≤◌, ◌<◌}
 use Rattle.std.specs.Prelude.{◌≡◌, refl, List, [], ◌∷◌, ◌++◌, set, take, replicate, Float}
-use Rattle.std.proofs.Common.{sym, ap₂, ◌∙◌, take_all}
+use Rattle.std.proofs.Common.{sym, ap₂, ◌∙◌, take_all, length-append, get_or-take}
+use Rattle.std.proofs.lemmas.List.{length-replicate, get_or-replicate, get_or-append_right}
 use Rattle.std.proofs.Math.Path.{ap}
 use native.Mathlib.Omega.{arith}
-use Rattle.std.proofs.Math.ListN.{length, drop, length-drop, get_or-append}
+use Rattle.std.proofs.Math.ListN.{length, drop, length-take, length-drop, get_or-append}
 use Rattle.std.proofs.Math.Seq.{length-take-le, drop_at}
 use Rattle.std.specs.Float.Ieee.{nan}
 use Rattle.binary64.specs.Operators.{◌⊕◌, ◌⊖◌, ◌⊘◌, f0, f1}
 use Rattle.kernels.specs.Channels.{at, up_to}
-use Rattle.kernels.specs.Laws.{length-up_to}
+use Rattle.kernels.specs.Laws.{length-up_to, up_to_front}
 use Rattle.feature.specs.Summaries.{slots_of}
 use Rattle.feature.specs.Steps.{moved_at, deviated, pushed}
 use Rattle.feature.specs.declared.Summary.{Summary}
@@ -17,7 +18,7 @@ use Rattle.head.specs.declared.Settings.{Settings}
 use Rattle.head.specs.Limits.{Sized}
 use Rattle.rules.specs.Tree.{push}
 use Rattle.rules.specs.Slices.{eight, filled_to, summary_in, summary_out}
-use Rattle.stretch.specs.Stretches.{put_stretch, put_rest}
+use Rattle.stretch.specs.Stretches.{put_stretch, put_rest, drop_end, append-none}
 use Rattle.stretch.specs.Slots.{Slot, eight-same, eight_front, eight_moved, eight-deviated}
 
 -- the front of a slot, with its weight w and its means m new
@@ -25,19 +26,44 @@ pub front_is : (f m : List Float) (w : Float) → 1 ≤ length f → set (put_st
 front_is (v ∷ t) m w h = ap (λ l. set l 0 w) (put_rest (v ∷ []) t m 1 (length (v ∷ t) - 1) refl (omega arith))
 front_is [] m w h = absurd (omega arith)
 
+-- ---- the first n numbers of a list, and zeros behind them, as long as p
+
+module _ (n : ℕ) (a p : List Float) (h : n ≤ length a) where
+  front_long : length (take n a) ≡ n
+  front_long = length-take-le n a h
+
+  pub length-fill : n ≤ length p → length (take n a ++ replicate (length p - n) f0) ≡ length p
+  length-fill k = simp (length-append, length-replicate) (omega (arith, front_long))
+
+  pub fill_front : (i : ℕ) → i < n → at (take n a ++ replicate (length p - n) f0) i ≡ at a i
+  fill_front i q = get_or-append (take n a) (replicate (length p - n) f0) nan i (omega (arith, front_long)) ∙ get_or-take n a i nan q
+
+  pub fill_past : (i : ℕ) → n ≤ i → i < length p → at (take n a ++ replicate (length p - n) f0) i ≡ f0
+  fill_past i q k =
+      get_or-append_right (take n a) (replicate (length p - n) f0) n i nan front_long q ∙ get_or-replicate (length p - n) (i - n) f0 nan (omega arith)
+
+-- all of a list, written over one as long
+pub up_to-whole : (a l : List Float) → length a ≡ length l → up_to (at a) (length l) l ≡ a
+up_to-whole a l e =
+    up_to_front a l (length l) (omega arith) (omega arith)
+    ∙ ap₂ (λ x y. x ++ y) (take_all (length l) a (omega arith)) (drop_end l (length l) refl) ∙ append-none a
+
 -- the front f of p and the rest b, where the deviations d are written over b
 pub store_parts : (s : Settings) (c : Summary) (p f b m d : List Float) (n : ℕ) → Slot s p → length f ≡ 1 + s.dim → length b + (1 + s.dim) ≡ length p
-    → m ≡ take s.dim c.mean → n ≡ slots_of s.feature s.dim → n ≤ length c.deviation
+    → s.dim ≤ length c.mean → n ≡ slots_of s.feature s.dim → n ≤ length c.deviation
+    → m ≡ take s.dim c.mean ++ replicate (length (take (length f - 1) (drop 1 f)) - s.dim) f0
     → d ≡ take n c.deviation ++ replicate (length b - n) f0
     → set (put_stretch f 1 (length f - 1) m) 0 c.weight ++ d ≡ summary_out s c
 unfolding summary_out filled_to
-store_parts s c p f b m d n e lf lb em en hc ed =
+store_parts s c p f b m d n e lf lb hm en hc em ed =
     let v = c.deviation in
+    let none : length (take (length f - 1) (drop 1 f)) - s.dim ≡ 0 = simp (length-take, length-drop) (omega arith) in
+    let means : m ≡ take s.dim c.mean = em ∙ ap (λ k. take s.dim c.mean ++ replicate k f0) none ∙ append-none (take s.dim c.mean) in
     let room : length b ≡ s.dim = omega arith in
     let behind : d ≡ take n v ++ replicate (s.dim - length (take n v)) f0 =
     ed ∙ ap₂ (λ j k. take n v ++ replicate (j - k) f0) room (sym (length-take-le n v hc)) in
     ap (λ l. l ++ d) (front_is f m c.weight (omega arith))
-    ∙ ap₂ (λ a b. c.weight ∷ (a ++ b)) em (behind ∙ ap (λ k. take k v ++ replicate (s.dim - length (take k v)) f0) en)
+    ∙ ap₂ (λ a b. c.weight ∷ (a ++ b)) means (behind ∙ ap (λ k. take k v ++ replicate (s.dim - length (take k v)) f0) en)
 
 -- ---- a push in place: the deviations d behind the old means, then the new means m, then the weight
 

@@ -55,7 +55,7 @@ pub struct Settings {
     pub abs: Distance,
 }
 
-// The feature of a number, and any other number's is the last.
+// The feature of a number, and any other number's is the last; no From, since neither type is this crate's.
 #[tactic(auto, unfolding(crate::specs::Heads::feature_at))]
 fn feature_at(n: u32) -> Feature
     ensures { result ≡ feature_at n }
@@ -66,7 +66,7 @@ fn feature_at(n: u32) -> Feature
     }
 }
 
-// The distance of a number, and any other number's is the last.
+// The distance of a number, likewise.
 #[tactic(auto, unfolding(crate::specs::Heads::distance_at))]
 fn distance_at(n: u32) -> Distance
     ensures { result ≡ distance_at n }

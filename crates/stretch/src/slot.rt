@@ -26,8 +26,10 @@ fn fill(n: usize, from: [f64; 8], p: &mut [f64])
     ensures { p.new ≡ take n from ++ replicate (length p.old - n) f0 }
 {
     for i in 0..8 {
-        if i < p.len() {
-            p[i] = if i < n { from[i] } else { 0.0 };
+        if i < n {
+            p[i] = from[i];
+        } else if i < p.len() {
+            p[i] = 0.0;
         }
     }
 }

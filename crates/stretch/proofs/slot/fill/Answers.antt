@@ -3,7 +3,7 @@ use Rattle.std.proofs.Common.{◌≡◌, ◌∙◌, ◌≤◌, ◌<◌, sym, len
 use Rattle.kernels.specs.Laws.{turns_none, turn_acts, turn_rests, turns_end}
 use Rattle.stretch.specs.Pushes.{fill_front, fill_past, up_to-whole, length-fill}
 use Rattle.stretch.proofs.slot.fill.Goals as goal
-use Rattle.stretch.proofs.slot.fill.Goals.{then-i-p, else-i-p, then-i-n, else-i-n}
+use Rattle.stretch.proofs.slot.fill.Goals.{then-i-n, else-i-n+then-i-p, else-i-n+else-i-p}
 
 pub loop-i-init : goal.loop-i-init
 loop-i-init c = turns_none _ _ _
@@ -15,14 +15,14 @@ loop-i-preserved c =
     let all : length a.from ≡ 8 = search rules in
     let few : a.n ≤ length a.from = omega arith in
     let long : length c.loop-i.p ≡ length a.p.now = search rules in
-    elim c.if-i-p.branch [
-      | then-i-p w ↦
+    elim c.if-i-n.branch [
+      | then-i-n w ↦
+          let below : c.loop-i.i < length a.p.now = omega (arith, w.if-i-n.true) in
+          w.p-is ∙ turn_acts _ _ _ _ _ e _ below (sym (fill_front a.n a.from a.p.now few c.loop-i.i w.if-i-n.true))
+      | else-i-n+then-i-p w ↦
           let below : c.loop-i.i < length a.p.now = rw (sym long) w.if-i-p.true in
-          elim w.if-i-n.branch [
-            | then-i-n w' ↦ w.p-is ∙ turn_acts _ _ _ _ _ e _ below (w'.p-is ∙ sym (fill_front a.n a.from a.p.now few c.loop-i.i w'.if-i-n.true))
-            | else-i-n w' ↦ w.p-is ∙ turn_acts _ _ _ _ _ e _ below (w'.p-is ∙ sym (fill_past a.n a.from a.p.now few c.loop-i.i w'.if-i-n.false below))
-          ]
-      | else-i-p w ↦ w.p-is ∙ turn_rests _ _ _ _ _ e (rw (sym long) w.if-i-p.false)
+          w.p-is ∙ turn_acts _ _ _ _ _ e _ below (sym (fill_past a.n a.from a.p.now few c.loop-i.i w.if-i-n.false below))
+      | else-i-n+else-i-p w ↦ w.p-is ∙ turn_rests _ _ _ _ _ e (rw (sym long) w.if-i-p.false)
     ]
 
 pub returns : goal.returns

@@ -86,14 +86,12 @@ fn print_kept(rt: &impl Print, c: Case, a: Answer, before: u64, after: u64) -> i
     }
 }
 
-// The case, on a tree made for it, with scratch and outputs that are not zero.
+// The case, on a tree made for it, with scratch that is not zero.
 pub fn print_case(rt: &impl Print, c: Case) -> io::Result<()> {
     let mut floats = [0.0; 85];
     let mut links = [0u32; 57];
     let mut scratch = [0.0; 34];
     let mut numbers = [0u32; 6];
-    let mut routes = [7u32; 1];
-    let mut spreads = [7.5; 8];
     let rows = [1.5; 8];
     let one = lending::dim(c);
     let made = lending::tree(
@@ -119,17 +117,7 @@ pub fn print_case(rt: &impl Print, c: Case) -> io::Result<()> {
             &mut numbers,
             &rows,
         ),
-        Call::Look(call) => print_look(
-            rt,
-            c,
-            call,
-            h,
-            &floats,
-            &links,
-            &rows,
-            &mut routes,
-            &mut spreads,
-        ),
+        Call::Look(call) => print_look(rt, c, call, h, &floats, &links, &rows),
     }
 }
 
@@ -164,6 +152,7 @@ fn print_change(
     print_kept(rt, c, a, before, after)
 }
 
+// To outputs that are not zero.
 fn print_look(
     rt: &impl Print,
     c: Case,
@@ -172,13 +161,12 @@ fn print_look(
     floats: &[f64],
     links: &[u32],
     rows: &[f64],
-    routes: &mut [u32],
-    spreads: &mut [f64],
 ) -> io::Result<()>
-    requires floats_len { (length floats.now ≡ 85) × (length links.now ≡ 57) × (length rows.now ≡ 8) }
-    requires routes_len { (length routes.old ≡ 1) × (length spreads.old ≡ 8) }
+    requires { (length floats.now ≡ 85) × (length links.now ≡ 57) × (length rows.now ≡ 8) }
 {
-    let before = fold_links(fold_floats(1, spreads), routes);
+    let mut routes = [7u32; 1];
+    let mut spreads = [7.5; 8];
+    let before = fold_links(fold_floats(1, &spreads), &routes);
     let f = lending::floats_lent(c);
     let l = lending::links_lent(c);
     let r = lending::numbers_of_rows(c);
@@ -193,6 +181,6 @@ fn print_look(
         &mut routes[0..o],
         &mut spreads[0..p],
     );
-    let after = fold_links(fold_floats(1, spreads), routes);
+    let after = fold_links(fold_floats(1, &spreads), &routes);
     print_kept(rt, c, a, before, after)
 }

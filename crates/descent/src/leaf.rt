@@ -9,7 +9,13 @@ use arena::entries;
 use head::{Counters, Settings};
 
 // The entry of a list that is nearest to a row, if any distance is below infinity.
-pub fn search_leaf(s: Settings, n: Counters, floats: &[f64], list: &[u32], row: &[f64]) -> Option<usize>
+pub fn search_leaf(
+    s: Settings,
+    n: Counters,
+    floats: &[f64],
+    list: &[u32],
+    row: &[f64],
+) -> Option<usize>
     requires { Floats s n (length floats.now) × (s.dim ≤ length row.now) × ChildrenIn n true list.now }
     ensures any_links { AnyLinks s n floats.now (λ t. result ≡ searched (λ e. dist_to s (entry_at t e) row.now) list.now) }
     ensures inside { Inside n.entries result }

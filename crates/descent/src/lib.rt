@@ -14,32 +14,25 @@ ghost use Rattle.arena.specs.Trees.{AnyLinks, Floats, Links, ChildrenIn};
 ghost use Rattle.laws.specs.ForCode.{Sure};
 ghost use Rattle.descent.specs.Forms.{FormFits, item_of};
 
-use crate::form::Form;
+use crate::form::Lent;
 use crate::nearest::nearest;
 use arena::links;
 use head::{Counters, Settings};
 
 // The node of a list that is nearest to an item: the first, then any later one strictly closer.
-pub fn nearest_child(
-    s: Settings,
-    n: Counters,
-    floats: &[f64],
-    list: &[u32],
-    form: Form,
-    x: &[f64],
-) -> usize
-    requires { Floats s n (length floats.now) × FormFits s form x.now × (0 < length list.now) × ChildrenIn n false list.now }
-    ensures any_links { AnyLinks s n floats.now (λ t. result ≡ closest (λ c. (item_of s form x.now).near (node_at t c).summary) list.now) }
+pub fn nearest_child(s: Settings, n: Counters, floats: &[f64], list: &[u32], item: Lent) -> usize
+    requires { Floats s n (length floats.now) × FormFits s item × (0 < length list.now) × ChildrenIn n false list.now }
+    ensures any_links { AnyLinks s n floats.now (λ t. result ≡ closest (λ c. (item_of s item.entry).near (node_at t c).summary) list.now) }
     ensures upper_bound { result < n.nodes }
 {
-    nearest(list, |c| form::to_node(s, n, floats, c, form, x))
+    nearest(list, |c| form::to_node(s, n, floats, c, item))
 }
 
 // From the root down to the leaf that an item belongs to.
-fn go_down(s: Settings, n: Counters, floats: &[f64], links: &[u32], form: Form, x: &[f64]) -> usize
-    requires floats { Floats s n (length floats.now) × Links s n (length links.now) × FormFits s form x.now }
+fn go_down(s: Settings, n: Counters, floats: &[f64], links: &[u32], item: Lent) -> usize
+    requires floats { Floats s n (length floats.now) × Links s n (length links.now) × FormFits s item }
     requires sure { Sure s (tree_of s n floats.now links.now) }
-    ensures value { result ≡ leaf_for (tree_of s n floats.now links.now) (item_of s form x.now).near }
+    ensures value { result ≡ leaf_for (tree_of s n floats.now links.now) (item_of s item.entry).near }
     ensures upper_bound { result < n.nodes }
 {
     let mut i = n.root;
@@ -47,24 +40,17 @@ fn go_down(s: Settings, n: Counters, floats: &[f64], links: &[u32], form: Form, 
         if links::is_leaf(s, n, links, i) {
             return i;
         }
-        i = nearest_child(s, n, floats, links::list(s, n, links, i), form, x);
+        i = nearest_child(s, n, floats, links::list(s, n, links, i), item);
     }
     i
 }
 
-// The same, with each slice lent anew: what is made here passes as numbers, and not through memory.
-pub fn descend(
-    s: Settings,
-    n: Counters,
-    floats: &[f64],
-    links: &[u32],
-    form: Form,
-    x: &[f64],
-) -> usize
-    requires floats { Floats s n (length floats.now) × Links s n (length links.now) × FormFits s form x.now }
+// The same, with floats and links lent anew: what is made here passes as numbers, and not through memory.
+pub fn descend(s: Settings, n: Counters, floats: &[f64], links: &[u32], item: Lent) -> usize
+    requires floats { Floats s n (length floats.now) × Links s n (length links.now) × FormFits s item }
     requires sure { Sure s (tree_of s n floats.now links.now) }
-    ensures value { result ≡ leaf_for (tree_of s n floats.now links.now) (item_of s form x.now).near }
+    ensures value { result ≡ leaf_for (tree_of s n floats.now links.now) (item_of s item.entry).near }
     ensures upper_bound { result < n.nodes }
 {
-    go_down(s, n, &floats[0..], &links[0..], form, &x[0..])
+    go_down(s, n, &floats[0..], &links[0..], item)
 }

@@ -7,7 +7,7 @@ ghost use Rattle.laws.specs.ForCode.{Sure};
 ghost use Rattle.descent.specs.Forms.{FormFits, item_of};
 
 use crate::form;
-use crate::form::Form;
+use crate::form::Lent;
 use arena::links;
 use head::{Counters, Settings};
 
@@ -18,17 +18,16 @@ pub fn feed_path(
     floats: &mut [f64],
     links: &[u32],
     leaf: usize,
-    form: Form,
-    x: &[f64],
+    item: Lent,
 )
-    requires floats { Floats s n (length floats.old) × Links s n (length links.now) × FormFits s form x.now }
+    requires floats { Floats s n (length floats.old) × Links s n (length links.now) × FormFits s item }
     requires sure { Sure s (tree_of s n floats.old links.now) × (leaf < n.nodes) }
     ensures { tree_of s n floats.new links.now
-        ≡ along_path (item_of s form x.now).taken leaf (tree_of s n floats.old links.now) }
+        ≡ along_path (item_of s item.entry).taken leaf (tree_of s n floats.old links.now) }
 {
     let mut i = leaf;
     for _ in 0..n.nodes {
-        form::feed(s, n, floats, i, form, x);
+        form::feed(s, n, floats, i, item);
         let Some(p) = links::parent(s, n, links, i) else {
             return;
         };

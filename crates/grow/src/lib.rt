@@ -17,7 +17,7 @@ ghost use Rattle.grow.specs.Places.{Place};
 ghost use Rattle.grow.specs.Room.{Growable, Placeable};
 
 use arena::{entries, links};
-use descent::form::Form;
+use descent::form::Lent;
 use descent::leaf::search_leaf;
 use descent::path::feed_path;
 use descent::{descend, form};
@@ -75,7 +75,7 @@ fn try_absorb(
             entries::push(s, n, floats, e, row);
             n
         }
-        _ => begin(s, n, floats, links, leaf, form::alone(s, Form::Row, row)),
+        _ => begin(s, n, floats, links, leaf, form::alone(s, Lent::Row(row))),
     }
 }
 
@@ -111,8 +111,8 @@ pub fn grow(
     ensures floats_2 { Floats s result (length floats.old) × Links s result (length links.old) }
     ensures links_after { tree_of s result floats.new links.new ≡ grown s (row_item s row.now) (tree_of s n floats.old links.old) }
 {
-    let leaf = descend(s, n, floats, links, Form::Row, row);
-    feed_path(s, n, floats, links, leaf, Form::Row, row);
+    let leaf = descend(s, n, floats, links, Lent::Row(row));
+    feed_path(s, n, floats, links, leaf, Lent::Row(row));
     let m = try_absorb(s, n, floats, links, leaf, row);
     split_if_over(s, m, floats, links, leaf)
 }
@@ -131,8 +131,8 @@ pub fn place_cf(
     ensures links_after { tree_of s result floats.new links.new
         ≡ replaced s (summary_in s x.now) (tree_of s n floats.old links.old) }
 {
-    let leaf = descend(s, n, floats, links, Form::Slot, x);
-    feed_path(s, n, floats, links, leaf, Form::Slot, x);
+    let leaf = descend(s, n, floats, links, Lent::Slot(x));
+    feed_path(s, n, floats, links, leaf, Lent::Slot(x));
     let m = begin(s, n, floats, links, leaf, slot::load(s, x));
     split_up(s, m, floats, links, leaf)
 }

@@ -11,7 +11,7 @@ ghost use Rattle.rules.specs.Route.{greedy};
 
 use arena::{entries, links};
 use descent::descend;
-use descent::form::Form;
+use descent::form::Lent;
 use descent::nearest::nearest;
 use head::{Counters, Settings};
 
@@ -32,6 +32,6 @@ pub fn route(s: Settings, n: Counters, floats: &[f64], links: &[u32], row: &[f64
     ensures value { result ≡ greedy s (tree_of s n floats.now links.now) row.now }
     ensures upper_bound { result < n.entries }
 {
-    let leaf = descend(s, n, floats, links, Form::Row, row);
+    let leaf = descend(s, n, floats, links, Lent::Row(row));
     closest_entry(s, n, floats, links::list(s, n, links, leaf), row)
 }

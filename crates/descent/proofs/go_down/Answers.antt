@@ -38,7 +38,7 @@ pub loop-preserved : goal.loop-preserved
 loop-preserved c =
     let a = c.args in
     let loop = c.loop in
-    let f = node_distance a.s a.form a.x.now (tree_of a.s a.n a.floats.now a.links.now) in
+    let f = node_distance a.s a.item (tree_of a.s a.n a.floats.now a.links.now) in
     let near = c.nearest_child-i.ensures.any_links a.links.now ∙ ap (closest f) (c.list.ensures a.floats.now) in
     let inner = sym (c.is_leaf.ensures a.floats.now) ∙ c.if-is_leaf.false in
     record {

@@ -8,5 +8,5 @@ use Rattle.descent.proofs.go_down.Given as goal
 abbrev pub invariant-loop : goal.invariant-loop
 invariant-loop l =
     let t = tree_of l.s l.n l.floats l.links in
-    let f = (item_of l.s l.form l.x).near in
+    let f = (item_of l.s l.item).near in
     record { there : l.i < l.n.nodes; left : descended t f (l.n.nodes - l.counter) l.i ≡ leaf_for t f }

@@ -1,10 +1,9 @@
 -- `grow::grow` meets its contract: the leaf is found, its path fed, the row placed in it, and the way up split.
-use mathlib.Core.Path.{◌≡◌, sym, ap, ◌∙◌}
+use mathlib.Core.Path.{◌≡◌, sym}
 use borrow.Author.Rules.{rules}
 use Rattle.rules.specs.Tree.{Tree, push, dist_to}
 use Rattle.rules.specs.Slices.{tree_of}
 use Rattle.rules.specs.Descent.{leaf_for, along_path}
-use Rattle.descent.specs.Forms.{fits_row, item_row}
 use Rattle.grow.specs.Room.{growable_sure, row_place, row_rising, grown-is}
 use Rattle.grow.proofs.grow.Statement.{statement}
 use Rattle.grow.proofs.grow.Tie as tie
@@ -24,26 +23,22 @@ abbrev tree : tie.Start → Tree
 tree c = tree_of c.args.s c.args.n c.args.floats.now c.args.links.now
 
 leaf : (c : tie.After-descend-leaf) → c.descend-leaf.result ≡ leaf_for (tree (start c)) (λ d. dist_to (start c).args.s d (start c).args.row.now)
-leaf c = c.descend-leaf.ensures.0 ∙ ap (λ i. leaf_for (tree (start c)) i.near) (item_row (start c).args.s (start c).args.row.now)
+leaf c = c.descend-leaf.ensures.0
 
 path : (c : tie.After-feed_path)
     → tree_of (start (found c)).args.s (start (found c)).args.n c.feed_path.new.floats (start (found c)).args.links.now
     ≡ along_path (push (start (found c)).args.s (start (found c)).args.row.now) (found c).descend-leaf.result (tree (start (found c)))
-path c =
-    let a = (start (found c)).args in
-    c.feed_path.ensures ∙ ap (λ i. along_path i.taken (found c).descend-leaf.result (tree (start (found c)))) (item_row a.s a.row.now)
+path c = c.feed_path.ensures
 
 descend-requires : tie.Need-descend-leaf-requires
 descend-requires c κs =
     let start = c.before.before.before in
-    ((start.requires.0.0, start.requires.0.1, fits_row start.args.s start.args.row.now start.requires.0.2), growable_sure _ _ start.requires.1)
+    (start.requires.0, growable_sure _ _ start.requires.1)
 
 feed-path-requires : tie.Need-feed_path-requires
 feed-path-requires c κs =
-    let start = start c.before in (
-      (start.requires.0.0, start.requires.0.1, fits_row start.args.s start.args.row.now start.requires.0.2),
-      (growable_sure _ _ start.requires.1, c.descend-leaf.ensures.1),
-    )
+    let start = start c.before in
+    (start.requires.0, (growable_sure _ _ start.requires.1, c.descend-leaf.ensures.1))
 
 try-absorb-requires : tie.Need-try_absorb-m-requires
 try-absorb-requires c κs =

@@ -11,7 +11,6 @@ use Rattle.rules.specs.Descent.{leaf_for, along_path}
 use Rattle.rules.specs.Insert.{begun}
 use Rattle.rules.specs.Held.{in_shaped}
 use Rattle.arena.specs.Trees.{Floats, Links}
-use Rattle.descent.specs.Forms.{fits_slot, item_slot}
 use Rattle.grow.specs.Places.{Place, place_spare, floats-begun, links_begun}
 use Rattle.grow.specs.Room.{placeable_sure, entry_place, entry_rising, replaced-is}
 use Rattle.grow.proofs.place_cf.Statement.{statement}
@@ -35,14 +34,12 @@ abbrev summary : tie.Start → Summary
 summary c = summary_in c.args.s c.args.x.now
 
 leaf : (c : tie.After-descend-leaf) → c.descend-leaf.result ≡ leaf_for (tree (start c)) (λ d. dist_between (start c).args.s d (summary (start c)))
-leaf c = c.descend-leaf.ensures.0 ∙ ap (λ i. leaf_for (tree (start c)) i.near) (item_slot (start c).args.s (start c).args.x.now)
+leaf c = c.descend-leaf.ensures.0
 
 path : (c : tie.After-feed_path)
     → tree_of (start (found c)).args.s (start (found c)).args.n c.feed_path.new.floats (start (found c)).args.links.now
     ≡ along_path (λ d. merge (start (found c)).args.s d (summary (start (found c)))) (found c).descend-leaf.result (tree (start (found c)))
-path c =
-    let a = (start (found c)).args in
-    c.feed_path.ensures ∙ ap (λ i. along_path i.taken (found c).descend-leaf.result (tree (start (found c)))) (item_slot a.s a.x.now)
+path c = c.feed_path.ensures
 
 place : (c : tie.After-feed_path)
     → Place (start (found c)).args.s (start (found c)).args.n (found c).descend-leaf.result
@@ -72,14 +69,12 @@ links c q = let start = start (found (fed c)) in links_begun start.args.s start.
 descend-requires : tie.Need-descend-leaf-requires
 descend-requires c κs =
     let start = c.before.before.before in
-    ((start.requires.0.0, start.requires.0.1, fits_slot start.args.s start.args.x.now start.requires.0.2), placeable_sure _ _ _ start.requires.1)
+    (start.requires.0, placeable_sure _ _ _ start.requires.1)
 
 feed-path-requires : tie.Need-feed_path-requires
 feed-path-requires c κs =
-    let start = start c.before in (
-      (start.requires.0.0, start.requires.0.1, fits_slot start.args.s start.args.x.now start.requires.0.2),
-      (placeable_sure _ _ _ start.requires.1, c.descend-leaf.ensures.1),
-    )
+    let start = start c.before in
+    (start.requires.0, (placeable_sure _ _ _ start.requires.1, c.descend-leaf.ensures.1))
 
 load-requires : tie.Need-load-requires
 load-requires c κs =

@@ -1,10 +1,9 @@
 -- `route::route` meets its contract: the leaf is found, and of its list the closest.
-use mathlib.Core.Path.{◌≡◌, ap, ◌∙◌}
+use mathlib.Core.Path.{◌≡◌}
 use borrow.Author.Rules.{rules}
 use Rattle.rules.specs.Tree.{Tree, dist_to}
 use Rattle.rules.specs.Slices.{tree_of}
 use Rattle.rules.specs.Descent.{leaf_for}
-use Rattle.descent.specs.Forms.{fits_row, item_row}
 use Rattle.route.specs.Routing.{routable_sure, leaf-some, leaf_entries, route_is}
 use Rattle.route.proofs.route.Statement.{statement}
 use Rattle.route.proofs.route.Tie as tie
@@ -18,13 +17,13 @@ abbrev tree : tie.Start → Tree
 tree c = tree_of c.args.s c.args.n c.args.floats.now c.args.links.now
 
 leaf : (c : tie.After-descend-leaf) → c.descend-leaf.result ≡ leaf_for (tree (start c)) (λ d. dist_to (start c).args.s d (start c).args.row.now)
-leaf c = c.descend-leaf.ensures.0 ∙ ap (λ i. leaf_for (tree (start c)) i.near) (item_row (start c).args.s (start c).args.row.now)
+leaf c = c.descend-leaf.ensures.0
 
 descend-requires : tie.Need-descend-leaf-requires
 descend-requires c κs =
     let start = c.before.before.before in
     let a = start.args in
-    ((start.requires.0.0, start.requires.0.1, fits_row a.s a.row.now start.requires.0.2), routable_sure a.s (tree start) start.requires.1)
+    (start.requires.0, routable_sure a.s (tree start) start.requires.1)
 
 closest-entry-requires : tie.Need-closest_entry-requires
 closest-entry-requires c κs =

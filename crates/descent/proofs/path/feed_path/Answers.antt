@@ -13,12 +13,11 @@ returns-in_default c =
     ∙ up_on _ _ (c.args.n.nodes - (c.loop.counter + 1)) c.loop.i _ _ None (omega arith) (c.feed.ensures _) (sym c.in_default.is ∙ c.parent.ensures c.loop.floats) ∙ c.loop.invariant.2
 
 pub loop-preserved : goal.loop-preserved
-loop-preserved c =
-    (
-      parent_there _ _ _ _ c.requires.sure.0 c.loop.i c.loop.invariant.0 _ (sym (c.in-Some.ensures c.args.floats.now)),
-      c.feed.auto.floats ∙ c.loop.invariant.1,
-      up_on _ _ (c.args.n.nodes - (c.loop.counter + 1)) c.loop.i _ _ _ (omega arith) (c.feed.ensures _) (c.in-Some.ensures c.loop.floats) ∙ c.loop.invariant.2,
-    )
+loop-preserved c = (
+  parent_there _ _ _ _ c.requires.sure.0 c.loop.i c.loop.invariant.0 _ (sym (c.in-Some.ensures c.args.floats.now)),
+  c.feed.auto.floats ∙ c.loop.invariant.1,
+  up_on _ _ (c.args.n.nodes - (c.loop.counter + 1)) c.loop.i _ _ _ (omega arith) (c.feed.ensures _) (c.in-Some.ensures c.loop.floats) ∙ c.loop.invariant.2,
+)
 
 pub returns : goal.returns
 returns c = sym (up_end _ _ _ _ (omega arith)) ∙ c.loop.invariant.2

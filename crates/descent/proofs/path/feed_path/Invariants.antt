@@ -9,5 +9,5 @@ use Rattle.descent.proofs.path.feed_path.Given as goal
 abbrev pub invariant-loop : goal.invariant-loop
 invariant-loop l =
     (l.i < l.n.nodes) × (length l.floats ≡ length l.fn.floats)
-    × (climbed_from (item_of l.s l.form l.x).taken (l.n.nodes - l.counter) (Some l.i) (tree_of l.s l.n l.floats l.links)
-    ≡ along_path (item_of l.s l.form l.x).taken l.leaf (tree_of l.s l.n l.fn.floats l.links))
+    × (climbed_from (item_of l.s l.item).taken (l.n.nodes - l.counter) (Some l.i) (tree_of l.s l.n l.floats l.links)
+    ≡ along_path (item_of l.s l.item).taken l.leaf (tree_of l.s l.n l.fn.floats l.links))

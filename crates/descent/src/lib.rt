@@ -45,7 +45,7 @@ fn go_down(s: Settings, n: Counters, floats: &[f64], links: &[u32], item: Lent) 
     i
 }
 
-// The same, with each slice lent anew: what is made here passes as numbers, and not through memory.
+// The same, with floats and links lent anew: what is made here passes as numbers, and not through memory.
 pub fn descend(s: Settings, n: Counters, floats: &[f64], links: &[u32], item: Lent) -> usize
     requires floats { Floats s n (length floats.now) × Links s n (length links.now) × FormFits s item }
     requires sure { Sure s (tree_of s n floats.now links.now) }

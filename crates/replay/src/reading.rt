@@ -3,7 +3,8 @@ ghost use Rattle.std.specs.Prelude.{◌≤◌, length};
 
 use std::io::Read;
 
-// Reads until buf is full, the input ends or a read fails, and gives how many bytes it put at buf's front.
+// Reads until buf is full, the input ends or a read fails, and gives how many bytes it put at buf's front. Each turn moves on by what
+// its read gave.
 pub fn read_full(input: &mut impl Read, buf: &mut [u8]) -> usize
     ensures { result ≤ length buf.new }
 {

@@ -10,9 +10,9 @@ ghost use Rattle.lines.specs.Rows.{Inserts};
 use fronts::create::create;
 use head::Head;
 use reasons::Reason;
+use text::RowLine;
 use text::heads::first_line;
 use text::row::row_line;
-use text::RowLine;
 use work::Work;
 use work::change::change;
 

@@ -14,16 +14,16 @@ use std::io;
 // The bits of all numbers, folded: other numbers give another fold, as good as always.
 fn fold_floats(start: u64, l: &[f64]) -> u64 {
     let mut fold = start;
-    for i in 0..l.len() {
-        fold = (fold << 1 | fold >> 63) ^ binary64::bits_of(l[i]);
+    for x in l {
+        fold = (fold << 1 | fold >> 63) ^ binary64::bits_of(*x);
     }
     fold
 }
 
 fn fold_links(start: u64, l: &[u32]) -> u64 {
     let mut fold = start;
-    for i in 0..l.len() {
-        fold = (fold << 1 | fold >> 63) ^ u64::from(l[i]);
+    for x in l {
+        fold = (fold << 1 | fold >> 63) ^ u64::from(*x);
     }
     fold
 }

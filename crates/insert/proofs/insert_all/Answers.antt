@@ -1,5 +1,5 @@
 -- A turn takes one row more into the tree.
-use Rattle.std.proofs.Common.{ap, ◌∙◌, arith}
+use Rattle.std.proofs.Common.{ap, ◌∙◌, ◌<◌, arith}
 use Rattle.rules.specs.Slices.{tree_of}
 use Rattle.rules.specs.Rows.{inserted}
 use Rattle.rows.specs.Rows.{row_of, row_there, row_wide}
@@ -20,7 +20,7 @@ pub insert-m-requires-clause-dim_in_bounds : goal.insert-m-requires-clause-dim_i
 insert-m-requires-clause-dim_in_bounds c =
     let a = c.args in
     let k = c.loop-k.k in
-    let more = c.loop-k-test.true in
+    let more : k < a.count = omega arith in
     let wide = row_wide a.s a.rows.now k (row_there a.s a.count k _ more c.requires.dim_in_bounds.0) in (
       rw c.row.ensures (omega arith),
       rest-one a.s (row_of a.s a.rows.now k) _ (batch-one a.s a.rows.now a.count _ c.loop-k.invariant.batch more),
@@ -31,10 +31,11 @@ loop-k-preserved c =
     let a = c.args in
     let l = c.loop-k in
     let new = c.insert-m in
+    let more : l.k < a.count = omega arith in
     record {
       floats_fit = rw new.auto.floats new.ensures.floats_2.0;
       links_fit = rw new.auto.links new.ensures.floats_2.1;
-      batch = batch-next a.s a.rows.now a.count _ l.invariant.batch c.requires.floats.0.sized c.loop-k-test.true
+      batch = batch-next a.s a.rows.now a.count _ l.invariant.batch c.requires.floats.0.sized more
           (new.ensures.links_after ∙ ap (λ x. inserted a.s x (tree_of a.s l.m l.floats l.links)) c.row.ensures);
     }
 

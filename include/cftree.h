@@ -1,6 +1,6 @@
 /* A tree of at most M summaries of rows: how many rows each stands for, their mean and their squared deviation.
  *
- * Link with libcftree.a (`bin/library` proves it and writes it to target/lib). It calls memset and memcpy, takes no memory
+ * Link with libcftree.a (`bin/library` proves it and writes it to target/lib). It calls memset, memcpy and memmove, takes no memory
  * of its own and keeps no state: all of a tree is in a head and two buffers that the caller lends.
  *
  * *** KEEP THE HEAD THAT A CHANGING CALL GIVES BACK, and lend that one next. *** An older head over the same buffers can

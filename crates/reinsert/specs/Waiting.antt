@@ -1,7 +1,6 @@
 -- Numbers on a stack whose top is last, as a list from the top down.
-use Rattle.std.specs.Prelude.{ℕ, zero, suc, ◌+◌, ◌-◌, ◌≤◌, ◌<◌, ◌≡◌, refl, List, [], ◌∷◌, ◌++◌, length, get_or, set, take, reverse}
-use Rattle.std.proofs.Common.{sym, ap, ap₂, ◌∙◌, add-one, arith, get_or-set_same, get_or-set_other, length-append, take-suc}
-use Rattle.std.proofs.lemmas.List.{length-reverse, length-take, length-take-le, reverse-append, reverse-reverse}
+use Rattle.std.specs.Prelude.{ℕ, zero, suc, ◌+◌, ◌-◌, ◌≤◌, ◌<◌, ◌≡◌, refl, List, [], ◌∷◌, ◌++◌, length, get_or, set, drop}
+use Rattle.std.proofs.Common.{sym, ap, ap₂, ◌∙◌, add-one, arith, drop_of_length-le, drop-cons, get_or-set_same, get_or-set_other}
 
 -- the first h numbers, the last of them first
 unfoldable pub waiting : List ℕ → ℕ → List ℕ
@@ -32,18 +31,28 @@ pub waiting-put : (st : List ℕ) (h v : ℕ) → h < length st → waiting (set
 unfolding waiting
 waiting-put st h v l = rw add-one (ap₂ (λ x xs. x ∷ xs) (get_or-set_same st h v 0 l) (below st h v h (omega arith)))
 
--- from the top down, the first h numbers are turned round
-waiting_reversed : (st : List ℕ) (h : ℕ) → h ≤ length st → waiting st h ≡ reverse (take h st)
-unfolding waiting
-waiting_reversed st zero l = refl
-waiting_reversed st (suc h) l =
-    ap (λ xs. get_or st h 0 ∷ xs) (waiting_reversed st h (omega arith))
-    ∙ sym (ap reverse (take-suc st h 0 l) ∙ reverse-append (take h st) (get_or st h 0 ∷ []))
+-- ---- a list put on top of h numbers, from its last to its first; ns are those
 
--- a list on top of h numbers, from its last up to its first
-pub stack_on : (l st us : List ℕ) (h : ℕ) → h ≤ length st → take (h + length l) us ≡ take h st ++ reverse l → waiting us (h + length l) ≡ l ++ waiting st h
-stack_on l st us h a e =
-    let long : h + length l ≤ length us =
-    omega (arith, ap length e, length-take (h + length l) us, length-append (take h st) (reverse l), length-take-le h st a, length-reverse l) in
-    waiting_reversed us (h + length l) long ∙ ap reverse e ∙ reverse-append (take h st) (reverse l)
-    ∙ ap₂ (λ xs ys. xs ++ ys) (reverse-reverse l) (sym (waiting_reversed st h a))
+module _ (l ns : List ℕ) (h : ℕ) where
+  pub stack_start : (st : List ℕ) → waiting st h ≡ ns → waiting st (h + 0) ≡ drop (length l - 0) l ++ ns
+  stack_start st q =
+      let e : h + 0 ≡ h = omega arith in
+      ap (waiting st) e ∙ q ∙ ap (λ m. m ++ ns) (sym (drop_of_length-le l {i = length l - 0} (omega arith)))
+
+  pub stack_turn : (k : ℕ) (st : List ℕ) → k < length l → h + k < length st → waiting st (h + k) ≡ drop (length l - k) l ++ ns
+      → waiting (set st (h + k) (get_or l (length l - 1 - k) 0)) (h + (k + 1)) ≡ drop (length l - (k + 1)) l ++ ns
+  stack_turn k st b r q =
+      let i = length l - 1 - k in
+      let e : h + (k + 1) ≡ h + k + 1 = omega arith in
+      let p : length l - (k + 1) ≡ i = omega arith in
+      let n : length l - k ≡ suc i = omega arith in
+      let here : drop i l ≡ get_or l i 0 ∷ drop (suc i) l = drop-cons l i 0 (omega arith) in
+      ap (waiting (set st (h + k) (get_or l i 0))) e ∙ waiting-put st (h + k) (get_or l i 0) r
+      ∙ ap (λ r. get_or l i 0 ∷ r) (q ∙ ap (λ n. drop n l ++ ns) n) ∙ ap (λ m. m ++ ns) (sym here ∙ ap (λ i. drop i l) (sym p))
+
+  pub stack_end : (k : ℕ) (st : List ℕ) → k ≤ length l → length l ≤ k → waiting st (h + k) ≡ drop (length l - k) l ++ ns
+      → waiting st (h + length l) ≡ l ++ ns
+  stack_end k st a b q =
+      let e : k ≡ length l = omega arith in
+      let z : length l - k ≡ 0 = omega arith in
+      ap (λ k. waiting st (h + k)) (sym e) ∙ q ∙ ap (λ n. drop n l ++ ns) z

@@ -34,16 +34,17 @@ fn copy_entries(
     count + list.len()
 }
 
-// A list goes on top of a stack of so many, its first number uppermost.
+// A list goes on top of a stack of so many, its first number uppermost: by places, since a copy turned round would call memmove,
+// and the archive asks for memset and memcpy alone.
 fn stack_list(list: &[u32], stack: &mut [u32], high: usize) -> usize
     requires { high + length list.now ≤ length stack.old }
     ensures { waiting stack.new result ≡ list.now ++ waiting stack.old high }
 {
-    let higher = high + list.len();
-    let top = &mut stack[high..higher];
-    top.copy_from_slice(list);
-    top.reverse();
-    higher
+    let len = list.len();
+    for k in 0..len {
+        stack[high + k] = list[len - 1 - k];
+    }
+    high + len
 }
 
 // Depth first from the root, the nodes that wait on a stack in scratch; says how many entries there are.

@@ -1,13 +1,14 @@
--- The list, copied and turned round, stands on top.
-use Rattle.std.proofs.Common.{◌+◌, ◌++◌, ◌∙◌, ap, arith, length, reverse, take}
-use Rattle.std.proofs.lemmas.Slice.{take-put_mid}
-use Rattle.reinsert.specs.Waiting.{stack_on}
+use Rattle.std.proofs.Common.{◌≤◌, ◌<◌, refl, arith}
+use Rattle.reinsert.specs.Waiting.{stack_start, stack_turn, stack_end}
 use Rattle.reinsert.proofs.collect.stack_list.Goals as goal
 
+pub loop-k-init : goal.loop-k-init
+loop-k-init c = stack_start c.args.list.now _ c.args.high c.args.stack.now refl
+
+pub loop-k-preserved : goal.loop-k-preserved
+loop-k-preserved c =
+    stack_turn c.args.list.now _ c.args.high c.loop-k.k c.loop-k.stack c.loop-k-test.true
+    (omega (arith, c.requires, c.loop-k.auto.stack, c.loop-k-test.true)) c.loop-k.invariant
+
 pub returns : goal.returns
-returns c =
-    let turned = c.reverse.ensures.after ∙ ap reverse c.copy_from_slice.ensures.after in
-    stack_on c.args.list.now c.args.stack.now _ c.args.high (omega arith)
-    (take-put_mid c.args.high _ c.args.stack.now c.reverse.new.self (c.args.high + length c.args.list.now)
-    (omega (arith, c.reverse.ensures.len, c.copy_from_slice.ensures.len, ap length c.copy_from_slice.ensures.after)) (omega arith)
-    ∙ ap (λ l. take c.args.high c.args.stack.now ++ l) turned)
+returns c = stack_end c.args.list.now _ c.args.high c.loop-k.k c.loop-k.stack (omega arith) (omega arith) c.loop-k.invariant

@@ -1,7 +1,7 @@
 /* A tree of at most M summaries of rows: how many rows each stands for, their mean and their squared deviation.
  *
- * Link with libcftree.a (`bin/library` proves it and writes it to target/lib). It calls memset, memcpy and memmove, takes
- * no memory of its own and keeps no state: all of a tree is in a head and two buffers that the caller lends.
+ * Link with libcftree.a (`bin/library` proves it and writes it to target/lib). It calls memset and memcpy, takes no memory
+ * of its own and keeps no state: all of a tree is in a head and two buffers that the caller lends.
  *
  * *** KEEP THE HEAD THAT A CHANGING CALL GIVES BACK, and lend that one next. *** An older head over the same buffers can
  * pass the tree check, and the tree then goes on with an older threshold: at M 1 and leaf_cap 1 the rows 0, 4, 5 leave it

@@ -13,7 +13,7 @@ use core::panic::PanicInfo;
 const STATION: Settings = Settings::new(4, 24);
 const ROWS: u32 = 8640;
 
-// of the C library: what starts a program, memset, memcpy and memmove
+// of the C library: what starts a program, memset and memcpy
 #[link(name = "c")]
 extern "C" {}
 

@@ -1,10 +1,10 @@
 -- What is worked out from a float's value alone.
-use Rattle.std.specs.Prelude.{◌≡◌, Bool, true, false, T, ◌==◌, from_bits, refl, Float}
+use Rattle.std.specs.Prelude.{◌≡◌, ◌*◌, Bool, true, false, T, ◌==◌, from_bits, refl, Float}
 use Rattle.std.proofs.Common.{sym, ap, ◌∙◌, true≢false, eqb-true, eq-eqb}
 use Rattle.std.proofs.lemmas.Bool.{false≢true}
 use Rattle.std.specs.Float.{nan, inf, fin, binary64, float_with_sign, float_is_finite}
 use Rattle.std.specs.Float.Ieee.Scale.{finite}
-use Rattle.std.specs.Float.Ieee.{is_nan, of_bits, to_bits, fits}
+use Rattle.std.specs.Float.Ieee.{up, down, ne, is_nan, of_bits, to_bits, fits}
 use Rattle.std.specs.Float.Ieee.Bits.{of_bits-to_bits}
 use Rattle.binary64.specs.Operators.{infinity}
 
@@ -32,6 +32,15 @@ unfolding float_is_finite
 finite_is nan = refl
 finite_is (inf s) = refl
 finite_is (fin s m e) = refl
+
+-- only a NaN differs from itself
+pub differs : (x : Float) → ne x x ≡ is_nan x
+unfolding ne is_nan
+differs nan = refl
+differs (inf true) = refl
+differs (inf false) = refl
+differs (fin true m e) = rw (eq-eqb (m * up e * down e) (m * up e * down e) refl)
+differs (fin false m e) = rw (eq-eqb (m * up e * down e) (m * up e * down e) refl)
 
 pub nan_is : (x : Float) → is_nan x ≡ true → x ≡ nan
 unfolding is_nan

@@ -1,5 +1,5 @@
 -- Small trees, whole and damaged, and the lowest condition of the tree check that each fails. One channel, entries of weight 1 unless said.
-use Rattle.std.specs.Prelude.{ℕ, ◌≡◌, refl, true, false, List, [], ◌∷◌, map, replicate, Option, None, Some, Ok, Err}
+use Rattle.std.specs.Prelude.{ℕ, ◌≡◌, refl, true, false, List, [], ◌∷◌, map, replicate, Option, None, Some, Result, Ok, Err}
 use Rattle.std.specs.Float.Ieee.{neg}
 use Rattle.binary64.specs.Operators.{f0, f1, ◌⊘◌}
 use Rattle.binary64.specs.Whole.{whole}
@@ -8,7 +8,7 @@ use Rattle.feature.specs.declared.Summary.{Summary}
 use Rattle.feature.specs.Summaries.{blank}
 use Rattle.distance.specs.declared.Distance.TheVariants.{CentroidEuclidean}
 use Rattle.head.specs.declared.Settings.{Settings}
-use Rattle.head.specs.declared.refusal.Condition.TheVariants.{Counts, Root, Lists, Links, Filled, Level, Weights, Merged}
+use Rattle.head.specs.Refusals.{number_of_condition}
 use Rattle.rules.specs.Tree.{Node, Tree, fresh}
 use Rattle.rules.specs.Check.{checked, Verdict}
 use Rattle.rules.specs.Computes.{computes}
@@ -37,8 +37,13 @@ ones n = replicate n (weighing 1)
 abbrev tree : List Node → List Summary → ℕ → Tree
 tree ns es root = record { nodes = ns; entries = es; root = root; running = record { threshold = f0; rebuilds = 0; merged = 0 } }
 
-abbrev verdicts : Settings → List Tree → List Verdict
-verdicts s ts = map (checked s) ts
+-- document 01's number of the condition that fails
+unfoldable numbered : Verdict → Result (Unit {0}) ℕ
+numbered (Ok tt) = Ok tt
+numbered (Err c) = Err (number_of_condition c)
+
+abbrev verdicts : Settings → List Tree → List (Result (Unit {0}) ℕ)
+verdicts s ts = map (λ t. numbered (checked s t)) ts
 
 -- leaves 0 and 1 under root 2
 abbrev two_leaves : ℕ → List ℕ → ℕ → List ℕ → ℕ → List Node
@@ -52,7 +57,7 @@ whole_trees : verdicts (with 2 4)
     ∷ tree (two_leaves 2 (0 ∷ 2 ∷ []) 1 (1 ∷ []) 3) (ones 3) 2
     ∷ [])
     ≡ Ok tt ∷ Ok tt ∷ Ok tt ∷ Ok tt ∷ []
-unfolding computes
+unfolding computes numbered number_of_condition
 whole_trees = refl
 
 -- 1: no node; more entries than M. 2: the root is not there; it has a parent
@@ -62,13 +67,13 @@ counts_and_root : verdicts (with 2 1)
     ∷ tree (leaf 1 (0 ∷ []) None ∷ []) (ones 1) 1
     ∷ tree (leaf 1 (0 ∷ []) (Some 0) ∷ []) (ones 1) 0
     ∷ [])
-    ≡ Err Counts ∷ Err Counts ∷ Err Root ∷ Err Root ∷ []
-unfolding computes
+    ≡ Err 1 ∷ Err 1 ∷ Err 2 ∷ Err 2 ∷ []
+unfolding computes numbered number_of_condition
 counts_and_root = refl
 
 -- 3: a list over its cap; an entry that is not there
-lists : verdicts (with 1 4) (tree (leaf 2 (0 ∷ 1 ∷ []) None ∷ []) (ones 2) 0 ∷ tree (leaf 1 (1 ∷ []) None ∷ []) (ones 1) 0 ∷ []) ≡ Err Lists ∷ Err Lists ∷ []
-unfolding computes
+lists : verdicts (with 1 4) (tree (leaf 2 (0 ∷ 1 ∷ []) None ∷ []) (ones 2) 0 ∷ tree (leaf 1 (1 ∷ []) None ∷ []) (ones 1) 0 ∷ []) ≡ Err 3 ∷ Err 3 ∷ []
+unfolding computes numbered number_of_condition
 lists = refl
 
 -- 4: a node that nobody lists; an entry that no leaf lists; an entry under two leaves, its rows counted double in every weight; a child that names another
@@ -78,13 +83,13 @@ links : verdicts (with 2 4)
     ∷ tree (two_leaves 2 (0 ∷ 1 ∷ []) 2 (2 ∷ 0 ∷ []) 4) (ones 3) 2
     ∷ tree (leaf 1 (0 ∷ []) (Some 2) ∷ leaf 1 (1 ∷ []) (Some 0) ∷ inner 2 (0 ∷ 1 ∷ []) None ∷ []) (ones 2) 2
     ∷ [])
-    ≡ Err Links ∷ Err Links ∷ Err Links ∷ Err Links ∷ []
-unfolding computes
+    ≡ Err 4 ∷ Err 4 ∷ Err 4 ∷ Err 4 ∷ []
+unfolding computes numbered number_of_condition
 links = refl
 
 -- 5: a leaf with nothing in it beside one with an entry; a lone inner root
-empty_lists : verdicts (with 2 4) (tree (two_leaves 1 (0 ∷ []) 0 [] 1) (ones 1) 2 ∷ tree (inner 0 [] None ∷ []) [] 0 ∷ []) ≡ Err Filled ∷ Err Filled ∷ []
-unfolding computes
+empty_lists : verdicts (with 2 4) (tree (two_leaves 1 (0 ∷ []) 0 [] 1) (ones 1) 2 ∷ tree (inner 0 [] None ∷ []) [] 0 ∷ []) ≡ Err 5 ∷ Err 5 ∷ []
+unfolding computes numbered number_of_condition
 empty_lists = refl
 
 -- 6: a root over one leaf; a leaf beside an inner node over three
@@ -93,8 +98,8 @@ levels : verdicts (with 1 4)
     ∷ tree (inner 4 (1 ∷ 2 ∷ []) None ∷ leaf 1 (0 ∷ []) (Some 0) ∷ inner 3 (3 ∷ 4 ∷ 5 ∷ []) (Some 0)
     ∷ leaf 1 (1 ∷ []) (Some 2) ∷ leaf 1 (2 ∷ []) (Some 2) ∷ leaf 1 (3 ∷ []) (Some 2) ∷ []) (ones 4) 0
     ∷ [])
-    ≡ Err Level ∷ Err Level ∷ []
-unfolding computes
+    ≡ Err 6 ∷ Err 6 ∷ []
+unfolding computes numbered number_of_condition
 levels = refl
 
 -- 7: an entry of weight 0.5; of weight 0; a leaf, and a root, that do not weigh their entries' sum
@@ -104,8 +109,8 @@ weights : verdicts (with 2 4)
     ∷ tree (leaf 2 (0 ∷ []) None ∷ []) (ones 1) 0
     ∷ tree (two_leaves 1 (0 ∷ []) 1 (1 ∷ []) 3) (ones 2) 2
     ∷ [])
-    ≡ Err Weights ∷ Err Weights ∷ Err Weights ∷ Err Weights ∷ []
-unfolding computes
+    ≡ Err 7 ∷ Err 7 ∷ Err 7 ∷ Err 7 ∷ []
+unfolding computes numbered number_of_condition
 weights = refl
 
 -- 8: a merged total of M; one below it passes
@@ -113,6 +118,6 @@ abbrev with-merged : ℕ → Tree
 with-merged n =
     record { nodes = leaf 1 (0 ∷ []) None ∷ []; entries = ones 1; root = 0; running = record { threshold = f0; rebuilds = 0; merged = n } }
 
-merged-total : verdicts (with 2 2) (with-merged 2 ∷ with-merged 1 ∷ []) ≡ Err Merged ∷ Ok tt ∷ []
-unfolding computes
+merged-total : verdicts (with 2 2) (with-merged 2 ∷ with-merged 1 ∷ []) ≡ Err 8 ∷ Ok tt ∷ []
+unfolding computes numbered number_of_condition
 merged-total = refl

@@ -1,5 +1,5 @@
 -- The seven refusals and the tree check's eight conditions: document 01's number and values for each.
-use Rattle.std.specs.Prelude.{ℕ, List, [], ◌∷◌, Result}
+use Rattle.std.specs.Prelude.{ℕ, ◌≡◌, refl, List, [], ◌∷◌, map, Result}
 use Rattle.head.specs.declared.refusal.Condition.{Condition}
 use Rattle.head.specs.declared.refusal.Condition.TheVariants.{Counts, Root, Lists, Links, Filled, Level, Weights, Merged}
 use Rattle.head.specs.declared.refusal.Refusal.{Refusal}
@@ -18,6 +18,11 @@ number_of_condition Filled = 5
 number_of_condition Level = 6
 number_of_condition Weights = 7
 number_of_condition Merged = 8
+
+pub eight_numbers : map number_of_condition (Counts ∷ Root ∷ Lists ∷ Links ∷ Filled ∷ Level ∷ Weights ∷ Merged ∷ [])
+    ≡ 1 ∷ 2 ∷ 3 ∷ 4 ∷ 5 ∷ 6 ∷ 7 ∷ 8 ∷ []
+unfolding number_of_condition
+eight_numbers = refl
 
 unfoldable pub number_of : Refusal → ℕ
 number_of Settings = 1

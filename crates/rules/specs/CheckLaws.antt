@@ -1,5 +1,5 @@
 -- The verdict and the conditions by name: a tree passes exactly where each holds.
-use Rattle.std.specs.Prelude.{◌≤◌, ◌≡◌, refl, Bool, true, false, ◌&&◌, List, [], ◌∷◌, T, leb, length, Ok}
+use Rattle.std.specs.Prelude.{◌≤◌, ◌≡◌, refl, Bool, true, false, ◌&&◌, List, [], ◌∷◌, map, T, leb, length, Ok}
 use Rattle.std.proofs.Common.{leb-true}
 use Rattle.std.specs.Float.Ieee.Bits.{is_true}
 use Rattle.binary64.specs.Whole.{most}
@@ -7,9 +7,15 @@ use Rattle.binary64.specs.Counts.{is_count}
 use Rattle.head.specs.declared.Settings.{Settings}
 use Rattle.head.specs.declared.refusal.Condition.{Condition}
 use Rattle.head.specs.Limits.{both}
+use Rattle.head.specs.Refusals.{number_of_condition}
 use Rattle.rules.specs.Lists.{every, up_from}
 use Rattle.rules.specs.Tree.{Tree}
 use Rattle.rules.specs.Check.{Passing, lowest, conditions, checked, weighs, weighed, total_of}
+
+-- the conditions are asked in the order of their numbers, 1 to 8: the lowest that fails is the first
+pub conditions_in_order : (s : Settings) (t : Tree) → map (λ c. number_of_condition c.0) (conditions s t) ≡ up_from 8 1
+unfolding conditions number_of_condition up_from
+conditions_in_order s t = refl
 
 abbrev Trues : List (Condition × Bool) → Type 0
 Trues [] = Unit

@@ -12,14 +12,15 @@ ghost use Rattle.halves.specs.Halves.{Parted};
 
 use crate::seeds::Seeds;
 use arena::children;
-use arrayvec::ArrayVec;
 use head::{Counters, Settings};
 
-// The two groups; a list is 17 long at most.
-#[derive(Drop)]
+// The first `ones` of one, and the first `twos` of two.
+#[derive(Clone, Copy)]
 pub struct Halves {
-    pub one: ArrayVec<u32, 17>,
-    pub two: ArrayVec<u32, 17>,
+    pub one: [u32; 17],
+    pub ones: usize,
+    pub two: [u32; 17],
+    pub twos: usize,
 }
 
 // Whether place k of a list goes to the first group, with so many placed in either: to its nearer seed, and if both are as near,
@@ -74,14 +75,23 @@ pub fn halves_of(
     ensures { AnyLinks s n floats.now (λ t.
         Parted (sides_by s (seeds_of w) (map (child t leaf) list.now)) list.now result) }
 {
-    let mut one = ArrayVec::new();
-    let mut two = ArrayVec::new();
+    let mut one = [0u32; 17];
+    let mut two = [0u32; 17];
+    let mut ones = 0;
+    let mut twos = 0;
     for (k, c) in list.iter().enumerate() {
-        if goes_first(s, n, floats, leaf, list, w, k, one.len(), two.len()) {
-            one.push(*c);
+        if goes_first(s, n, floats, leaf, list, w, k, ones, twos) {
+            one[ones] = *c;
+            ones += 1;
         } else {
-            two.push(*c);
+            two[twos] = *c;
+            twos += 1;
         }
     }
-    Halves { one, two }
+    Halves {
+        one,
+        ones,
+        two,
+        twos,
+    }
 }

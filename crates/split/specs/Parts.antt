@@ -1,6 +1,6 @@
 -- The two halves of a node, written: the node refilled, a node more, and the moved nodes told of it.
 use Prim.Native.Nat.{ℕ, zero, suc, ◌+◌, ◌≤◌, ◌<◌}
-use Rattle.std.specs.Prelude.{◌≡◌, Bool, true, false, length, get_or, drop, set, Option, None, Some}
+use Rattle.std.specs.Prelude.{◌≡◌, Bool, true, false, length, get_or, take, drop, set, Option, None, Some}
 use Rattle.std.proofs.Math.Path.{refl, ap}
 use Rattle.std.proofs.Common.{sym, ◌∙◌, add-one, drop_of_length-le}
 use mathlib.Core.List.{List, [], ◌∷◌}
@@ -26,16 +26,26 @@ refilled c ks n = record { summary = c; list = ks; leaf = n.leaf; parent = n.par
 unfoldable pub adopted_by : ℕ → List ℕ → Tree → Tree
 adopted_by p ks t = with_nodes (adopted false p ks t.nodes) t
 
+abbrev pub ones : Halves → List ℕ
+ones h = take h.ones h.one
+
+abbrev pub twos : Halves → List ℕ
+twos h = take h.twos h.two
+
 -- node i keeps the first group, and the second is a new node
 unfoldable pub halved : Settings → ℕ → Halves → Tree → Tree
-halved s i h t = with_nodes (snoc (set t.nodes i (half s t (node_at t i) h.one.items)) (half s t (node_at t i) h.two.items)) t
+halved s i h t = with_nodes (snoc (set t.nodes i (half s t (node_at t i) (ones h))) (half s t (node_at t i) (twos h))) t
 
 -- node i can be written so: the groups name what is there and fit a block, and the parent fits its word
 pub record HalvesIn (s : Settings) (n : Counters) (t : Tree) (i : ℕ) (h : Halves) : Type 0 where
-  pub ones_in : ChildrenIn n (node_at t i).leaf h.one.items
-  pub twos_in : ChildrenIn n (node_at t i).leaf h.two.items
-  pub ones_room : length h.one.items + 2 ≤ block_width s
-  pub twos_room : length h.two.items + 2 ≤ block_width s
+  pub ones_in : ChildrenIn n (node_at t i).leaf (ones h)
+  pub twos_in : ChildrenIn n (node_at t i).leaf (twos h)
+  pub ones_room : h.ones + 2 ≤ block_width s
+  pub twos_room : h.twos + 2 ≤ block_width s
+  pub one_long : length h.one ≡ 17
+  pub two_long : length h.two ≡ 17
+  pub ones-few : h.ones ≤ 17
+  pub twos-few : h.twos ≤ 17
   pub parent_fits : (p : ℕ) → (node_at t i).parent ≡ Some p → p < no_parent
 
 -- ---- a node refilled
@@ -78,19 +88,19 @@ parent_fits None e h = tt
 module _ (s : Settings) (i : ℕ) (h : Halves) (t : Tree) where
   -- by a node refilled and a node more, their summaries gathered from t
   pub halves_are : {leaf : Bool} {parent : Option ℕ} {a b : Summary} {u v : Tree} → leaf ≡ (node_at t i).leaf → parent ≡ (node_at t i).parent
-      → a ≡ gathered s t leaf h.one.items → b ≡ gathered s t leaf h.two.items → u ≡ on_node (refilled a h.one.items) i t
-      → v ≡ with_node (node_of b parent leaf h.two.items) u → v ≡ halved s i h t
+      → a ≡ gathered s t leaf (ones h) → b ≡ gathered s t leaf (twos h) → u ≡ on_node (refilled a (ones h)) i t
+      → v ≡ with_node (node_of b parent leaf (twos h)) u → v ≡ halved s i h t
   unfolding halved half on_node with_node with_nodes refilled node_of node_at
   halves_are p q ea eb eu ev =
       ev ∙ rw (eu, ea, eb, p, q)
-      (ap (λ ns. with_nodes (snoc ns (half s t (node_at t i) h.two.items)) t)
-      (change-set (refilled (gathered s t (node_at t i).leaf h.one.items) h.one.items) i t.nodes blank_node))
+      (ap (λ ns. with_nodes (snoc ns (half s t (node_at t i) (twos h))) t)
+      (change-set (refilled (gathered s t (node_at t i).leaf (ones h)) (ones h)) i t.nodes blank_node))
 
   module _ (p : Grouped s t i h) where
     pub split-leaf : (node_at t i).leaf ≡ true → halved s i h t ≡ split s i t
     unfolding halved split parted adopted
     split-leaf e = rw (p.first, p.second, e)
 
-    pub split-inner : {j : ℕ} → length t.nodes ≡ j → (node_at t i).leaf ≡ false → adopted_by j h.two.items (halved s i h t) ≡ split s i t
+    pub split-inner : {j : ℕ} → length t.nodes ≡ j → (node_at t i).leaf ≡ false → adopted_by j (twos h) (halved s i h t) ≡ split s i t
     unfolding halved split parted adopted_by with_nodes
     split-inner n e = rw (p.first, p.second, e, n)

@@ -18,7 +18,7 @@ use Rattle.halves.specs.declared.Halves.{Halves}
 use Rattle.halves.specs.declared.seeds.Seeds.{Seeds}
 use Rattle.halves.specs.Halves.{Parted, Grouped}
 use Rattle.halves.specs.Seeds.{seeds_of}
-use Rattle.split.specs.Parts.{HalvesIn}
+use Rattle.split.specs.Parts.{HalvesIn, twos}
 use Rattle.split.specs.Rising.{Splits}
 
 -- what holds of each of a list holds of each that is kept
@@ -48,6 +48,10 @@ module _ (s : Settings) (n : Counters) (t : Tree) (i : ℕ) where
         twos_in = rw g.second (keep_in n (node_at t i).leaf (flip (stays s t (node_at t i))) (node_at t i).list p.inside);
         ones_room = omega arith;
         twos_room = omega arith;
+        one_long = g.one_long;
+        two_long = g.two_long;
+        ones-few = omega arith;
+        twos-few = omega arith;
         parent_fits = p.parent_fits;
       }
 
@@ -56,9 +60,9 @@ module _ (s : Settings) (n : Counters) (t : Tree) (i : ℕ) where
 
   -- the members of an inner node's second group are nodes, with a node more too
   pub moved_in : {h : Halves} {r : Counters} → HalvesIn s n t i h → (node_at t i).leaf ≡ false → r ≡ count_nodes (n.nodes + 1) n
-      → (k : ℕ) → k < length h.two.items → get_or h.two.items k 0 < r.nodes
+      → (k : ℕ) → k < length (twos h) → get_or (twos h) k 0 < r.nodes
   unfolding ChildrenIn ChildIn count_nodes
   moved_in {h} {r} p f e k q =
-      let inside : ChildrenIn n false h.two.items = rw f at p.twos_in in
-      let here : get_or h.two.items k 0 < n.nodes = inside k q in
+      let inside : ChildrenIn n false (twos h) = rw f at p.twos_in in
+      let here : get_or (twos h) k 0 < n.nodes = inside k q in
       rw e (omega arith)

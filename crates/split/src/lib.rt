@@ -28,11 +28,12 @@ pub fn split(s: Settings, n: Counters, floats: &mut [f64], links: &mut [u32], i:
 {
     let leaf = links::is_leaf(s, n, links, i);
     let h = groups(s, n, floats, links, i);
-    let r = part(s, n, floats, links, i, &h);
+    let r = part(s, n, floats, links, i, h);
     if leaf {
         return r;
     }
-    adopt(s, r, links, h.two.as_slice(), n.nodes);
+    let two = h.two;
+    adopt(s, r, links, &two[..h.twos], n.nodes);
     r
 }
 

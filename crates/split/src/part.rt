@@ -39,17 +39,17 @@ pub fn part(
     floats: &mut [f64],
     links: &mut [u32],
     i: usize,
-    h: &Halves,
+    h: Halves,
 ) -> Counters
     requires floats { Floats s n (length floats.old) × Links s n (length links.old) × (i < n.nodes) × (n.nodes < node_cap s) }
-    requires halves_in { HalvesIn s n (tree_of s n floats.old links.old) i h.now }
+    requires halves_in { HalvesIn s n (tree_of s n floats.old links.old) i h }
     ensures value { result ≡ count_nodes (n.nodes + 1) n }
-    ensures links_after { tree_of s result floats.new links.new ≡ halved s i h.now (tree_of s n floats.old links.old) }
+    ensures links_after { tree_of s result floats.new links.new ≡ halved s i h (tree_of s n floats.old links.old) }
 {
     let leaf = links::is_leaf(s, n, links, i);
     let parent = links::parent(s, n, links, i);
-    let one = h.one.as_slice();
-    let two = h.two.as_slice();
+    let one = &h.one[..h.ones];
+    let two = &h.two[..h.twos];
     let a = gather(s, n, floats, leaf, one);
     let b = gather(s, n, floats, leaf, two);
     refill(s, n, floats, links, i, a, one);

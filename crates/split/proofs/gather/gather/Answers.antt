@@ -1,5 +1,5 @@
 -- A turn merges what one number names.
-use Rattle.std.proofs.Common.{[], get_or, sym, ◌∙◌}
+use Rattle.std.proofs.Common.{◌≡◌, [], get_or, sym, ◌∙◌}
 use Rattle.feature.specs.Shape.{Shaped, blank_shaped, merged_shaped}
 use Rattle.rules.specs.Slices.{tree_of}
 use Rattle.arena.specs.Trees.{ChildrenIn, child_shaped}

@@ -8,7 +8,5 @@ returns-clause-links_after c =
     let a = c.args in
     let fs = a.floats.now in
     let ls = a.links.now in
-    let one = c.as_slice-one.ensures.value in
-    let two = c.as_slice-two.ensures.value in
-    halves_are a.s a.i a.h.now (tree_of a.s a.n fs ls) (c.is_leaf-leaf.ensures fs) (c.parent-parent.ensures fs)
-    (rw one at c.gather-a.ensures.any_links ls) (rw two at c.gather-b.ensures.any_links ls) (rw one at c.refill.ensures) (rw two at c.append.ensures.links_after)
+    halves_are a.s a.i a.h (tree_of a.s a.n fs ls) (c.is_leaf-leaf.ensures fs) (c.parent-parent.ensures fs)
+    (c.gather-a.ensures.any_links ls) (c.gather-b.ensures.any_links ls) c.refill.ensures c.append.ensures.links_after

@@ -12,7 +12,6 @@ ghost use Rattle.rules.specs.Route.{greedy};
 use arena::{entries, links};
 use descent::descend;
 use descent::form::Lent;
-use descent::nearest::nearest;
 use head::{Counters, Settings};
 
 // The entry of a list that is closest to a row: the first, then any later one strictly closer.
@@ -22,7 +21,17 @@ fn closest_entry(s: Settings, n: Counters, floats: &[f64], list: &[u32], row: &[
     ensures upper_bound { result < n.entries }
 {
     let dist = s.dist;
-    nearest(list, |e| entries::to_row(s, n, floats, e, dist, row))
+    let mut best = list[0] as usize;
+    let mut least = entries::to_row(s, n, floats, best, dist, row);
+    for e in &list[1..] {
+        let e = *e as usize;
+        let d = entries::to_row(s, n, floats, e, dist, row);
+        if d < least {
+            least = d;
+            best = e;
+        }
+    }
+    best
 }
 
 // The entry that a row is routed to. A row with no distance below infinity goes to the first of its leaf's list.

@@ -4,6 +4,7 @@ use Rattle.std.proofs.Common.{arith, sym, ap, ◌∙◌}
 use Rattle.std.proofs.lemmas.Result.{err_from_is_err_and}
 use borrow.Author.Tests.{le-leb, lt-leb, eq-eqb, ne_eqb}
 use Rattle.binary64.specs.Whole.{most}
+use Rattle.head.specs.declared.refusal.Condition.{Condition}
 use Rattle.head.specs.declared.refusal.Refusal.{Refusal}
 use Rattle.head.specs.declared.refusal.Refusal.TheVariants as R
 use Rattle.head.specs.Refusals.{Answer}
@@ -29,11 +30,12 @@ module _ (xs ys : List Refusal) where
 
 -- ---- each
 
--- 3: the condition that fails, as the refusal
-pub tree_told : {a : Answer} (v : Verdict) → MatchResult v (λ x. a ≡ Ok x) (λ k. IsErrAnd a (λ r. r ≡ R.Tree k)) → a ≡ answer_of (tree_refusal v)
+-- 3: the condition that fails, as the refusal, whatever function made it so
+pub tree_told : (P : Condition → Refusal → Type 0) → ((k : Condition) (r : Refusal) → P k r → r ≡ R.Tree k) → {a : Answer} (v : Verdict)
+    → MatchResult v (λ x. a ≡ Ok x) (λ k. IsErrAnd a (P k)) → a ≡ answer_of (tree_refusal v)
 unfolding tree_refusal answer_of
-tree_told (Ok tt) e = e
-tree_told (Err k) e = passed_up e
+tree_told P f (Ok tt) e = e
+tree_told P f {a = a} (Err k) e = let p = err_from_is_err_and a e in p.1 ∙ ap Err (f k p.0 p.2)
 
 -- 4
 module _ (dim n : ℕ) where

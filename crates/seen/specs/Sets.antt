@@ -1,11 +1,10 @@
 -- A set of numbers below 256, a bit each in four words: what it holds after one more.
-use Rattle.std.specs.Prelude.{ℕ, zero, suc, ◌+◌, ◌*◌, ◌/◌, ◌%◌, ◌^◌, ◌≤◌, ◌<◌, max, ◌≡◌, refl, ◌⊎◌, ◌≢◌, cond, eqb, Option, Some, None, List, [], ◌∷◌, map, replicate, length, get_or, set, take}
+use Rattle.std.specs.Prelude.{ℕ, zero, suc, ◌+◌, ◌*◌, ◌/◌, ◌%◌, ◌^◌, ◌≤◌, ◌<◌, max, ◌≡◌, refl, ◌⊎◌, ◌≢◌, cond, eqb, Option, Some, None, [], ◌∷◌, map, replicate, get_or, take}
 use Rattle.std.proofs.Common.{sym, ap, ap₂, ◌∙◌, subst, inl, inr, one-mul, arith, eq-eqb, ne_eqb, lit<, shr-shr, shl_exact, length-take}
 use Rattle.std.proofs.Math.Arith.{digits_div, digits_mod}
 use Rattle.std.specs.Int.Bits.{bit_and, bit_or, or_step, or_zero_l, or_zero_r, shifted_half, shifted_even}
-use Rattle.std.proofs.Math.ListN.{length-set}
 use Rattle.std.proofs.lemmas.Nat.{and_mask}
-use Rattle.std.proofs.lemmas.List.{get_or_past, get_or-take, get_or-set_same, get_or-set_other}
+use Rattle.std.proofs.lemmas.List.{get_or_past, get_or-take}
 use Rattle.counting.specs.Count.{is, is_same, is_other, same?}
 use Rattle.seen.specs.declared.Seen.{Seen}
 
@@ -138,9 +137,9 @@ digit-bit e c = go (same? (e / 64) (c / 64)) (same? (c % 64) (e % 64))
 
 -- ---- what the code computes
 
-pub word_at : (z : Seen) (e : ℕ) → e < 256 → get_or z.words (e / 64) 0 ≡ word_of z (e / 64)
+pub word_at : (z : Seen) (e k : ℕ) → e / 64 ≡ k → k < 4 → get_or z.words k 0 ≡ word_of z (e / 64)
 unfolding word_of
-word_at z e h = sym (get_or-take 4 z.words (e / 64) 0 (omega arith))
+word_at z e k h l = rw h (sym (get_or-take 4 z.words k 0 l))
 
 pub has_is : (z : Seen) (e : ℕ) {w : ℕ} → w ≡ word_of z (e / 64) → eqb (bit_and (w / 2 ^ (e % 64)) 1) 1 ≡ eqb (times z e) 1
 unfolding times digit
@@ -149,28 +148,15 @@ has_is z e {w} h = ap (λ x. eqb x 1) (and_mask (w / 2 ^ (e % 64)) 1 ∙ ap (λ 
 bit_is : (e q : ℕ) → e / 64 ≡ q → (1 * 2 ^ (e % 64)) % 2 ^ 64 ≡ bit_of e q
 bit_is e q h = shl_exact {a = 1} 1 (e % 64) 64 (lit< tt) (omega arith) ∙ one-mul (2 ^ (e % 64)) ∙ bit_here e q h
 
+-- e's word has its bit
+pub word_gains : (z : Seen) (e q : ℕ) → q < 4 → e / 64 ≡ q → bit_or (get_or z.words q 0) (1 * 2 ^ (e % 64) % 2 ^ 64) ≡ bit_or (word_of z q) (bit_of e q)
+unfolding word_of
+word_gains z e q l h = rw (bit_is e q h, get_or-take 4 z.words q 0 l)
+
 -- a word that e is not in stays
-word_stays : (z : Seen) (e q : ℕ) → q < 4 → e / 64 ≢ q → get_or z.words q 0 ≡ bit_or (word_of z q) (bit_of e q)
+pub word_stays : (z : Seen) (e q : ℕ) → q < 4 → e / 64 ≢ q → get_or z.words q 0 ≡ bit_or (word_of z q) (bit_of e q)
 unfolding word_of
 word_stays z e q l h = rw (← bit_away e q h, or_zero_r (word_of z q)) (sym (get_or-take 4 z.words q 0 l))
-
-by_word : (z : Seen) (e : ℕ) (l : List ℕ) → length l ≡ 4 → ((q : ℕ) → q < 4 → get_or l q 0 ≡ bit_or (word_of z q) (bit_of e q)) → record { words = l } ≡ with z e
-unfolding with
-by_word z e (a ∷ b ∷ c ∷ d ∷ []) n h = rw (h 0 (lit< tt), h 1 (lit< tt), h 2 (lit< tt), h 3 (lit< tt))
-by_word z e _ n h = absurd (omega arith)
-
-pub add_new : (z : Seen) (e : ℕ) → length z.words ≡ 4 → e < 256
-    → record { words = set z.words (e / 64) (bit_or (get_or z.words (e / 64) 0) (1 * 2 ^ (e % 64) % 2 ^ 64)) } ≡ with z e
-unfolding word_of
-add_new z e n h = by_word z e _ (length-set z.words (e / 64) _ ∙ n) (λ q l. go q l (same? q (e / 64)))
-  where
-    go : (q : ℕ) → q < 4 → (q ≡ e / 64) ⊎ (q ≢ e / 64)
-        → get_or (set z.words (e / 64) (bit_or (get_or z.words (e / 64) 0) (1 * 2 ^ (e % 64) % 2 ^ 64))) q 0 ≡ bit_or (word_of z q) (bit_of e q)
-    go q l (inl w) = rw (w, get_or-set_same z.words (e / 64) _ 0 (omega arith), word_at z e h, bit_is e (e / 64) refl)
-    go q l (inr w) = get_or-set_other z.words (e / 64) q _ 0 w ∙ word_stays z e q l (λ v. w (sym v))
-
-pub add_none : (z : Seen) (e : ℕ) → length z.words ≡ 4 → 256 ≤ e → record { words = z.words } ≡ with z e
-add_none z e n h = by_word z e z.words n (λ q l. word_stays z e q l (λ v. omega arith))
 
 -- ---- the set
 

@@ -77,7 +77,7 @@ fn refusal_numbers(r: Refusal) -> AnswerNumbers
 {
     let number = u32::from(r);
     match r {
-        Refusal::Tree(condition) => with_values(number, u64::from(u32::from(condition)), 0),
+        Refusal::Tree(condition) => with_values(number, u64::from(condition), 0),
         Refusal::Shape(dim, length) => with_values(number, dim as u64, length as u64),
         Refusal::Settings | Refusal::Room | Refusal::Empty | Refusal::Full | Refusal::Output =>
             only(number),

@@ -37,7 +37,7 @@ number_of Output = 7
 unfoldable pub values_of : Refusal → List ℕ
 values_of Settings = []
 values_of Room = []
-values_of (Tree condition) = number_of_condition condition ∷ []
+values_of (Tree condition) = condition ∷ []
 values_of (Shape dim length) = dim ∷ length ∷ []
 values_of Empty = []
 values_of Full = []

@@ -19,8 +19,8 @@ pub enum Condition {
 pub enum Refusal {
     Settings,
     Room,
-    // The lowest condition of the tree check that fails.
-    Tree(Condition),
+    // The number of the lowest condition of the tree check that fails.
+    Tree(u32),
     // Dim, and the row's length or what is left over of a batch's.
     Shape(usize, usize),
     Empty,

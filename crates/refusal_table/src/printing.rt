@@ -14,7 +14,7 @@ impl Display for Shown {
             Err(Refusal::Settings) => f.pad("SETTINGS"),
             Err(Refusal::Room) => f.pad("ROOM"),
             Err(Refusal::Tree(condition)) => {
-                f.pad(InlineText::<15>::of(format_args!("TREE {}", u32::from(condition))).as_str())
+                f.pad(InlineText::<15>::of(format_args!("TREE {condition}")).as_str())
             }
             Err(Refusal::Shape(dim, long)) => {
                 f.pad(InlineText::<47>::of(format_args!("SHAPE {dim} {long}")).as_str())

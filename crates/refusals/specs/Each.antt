@@ -7,7 +7,7 @@ use Rattle.binary64.specs.Whole.{most}
 use Rattle.head.specs.declared.refusal.Condition.{Condition}
 use Rattle.head.specs.declared.refusal.Refusal.{Refusal}
 use Rattle.head.specs.declared.refusal.Refusal.TheVariants as R
-use Rattle.head.specs.Refusals.{Answer}
+use Rattle.head.specs.Refusals.{Answer, number_of_condition}
 use Rattle.rules.specs.Check.{total_of, Verdict}
 use Rattle.rules.specs.Tree.{Tree}
 use Rattle.rules.specs.Calls.{answer_of, tree_refusal, batch_shape_refusal, empty_refusal, insert_full_refusal, refit_full_refusal, output_refusal}
@@ -30,9 +30,9 @@ module _ (xs ys : List Refusal) where
 
 -- ---- each
 
--- 3: the condition that fails, as the refusal, whatever function made it so
-pub tree_told : (P : Condition → Refusal → Type 0) → ((k : Condition) (r : Refusal) → P k r → r ≡ R.Tree k) → {a : Answer} (v : Verdict)
-    → MatchResult v (λ x. a ≡ Ok x) (λ k. IsErrAnd a (P k)) → a ≡ answer_of (tree_refusal v)
+-- 3: the number of the condition that fails, as the refusal, whatever function made it so
+pub tree_told : (P : Condition → Refusal → Type 0) → ((k : Condition) (r : Refusal) → P k r → r ≡ R.Tree (number_of_condition k))
+    → {a : Answer} (v : Verdict) → MatchResult v (λ x. a ≡ Ok x) (λ k. IsErrAnd a (P k)) → a ≡ answer_of (tree_refusal v)
 unfolding tree_refusal answer_of
 tree_told P f (Ok tt) e = e
 tree_told P f {a = a} (Err k) e = let p = err_from_is_err_and a e in p.1 ∙ ap Err (f k p.0 p.2)

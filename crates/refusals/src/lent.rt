@@ -29,7 +29,7 @@ fn tree_check(s: Settings, n: Counters, floats: &[f64], links: &[u32]) -> Answer
     requires { Sized s × (floats_needed s ≤ length floats.now) × (links_needed s ≤ length links.now) }
     ensures { result ≡ answer_of (tree_refusal (checked s (tree_of s n floats.now links.now))) }
 {
-    validate(s, n, floats, links).map_err(Refusal::Tree)
+    validate(s, n, floats, links).map_err(|c| Refusal::Tree(u32::from(c)))
 }
 
 // Creation: 1 and 2 only.

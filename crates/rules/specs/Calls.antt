@@ -10,7 +10,7 @@ use Rattle.head.specs.declared.Head.{Head}
 use Rattle.head.specs.declared.Settings.{Settings}
 use Rattle.head.specs.declared.refusal.Refusal.{Refusal}
 use Rattle.head.specs.declared.refusal.Refusal.TheVariants as R
-use Rattle.head.specs.Refusals.{Answer}
+use Rattle.head.specs.Refusals.{Answer, number_of_condition}
 use Rattle.rules.specs.Lists.{concat, rows_of}
 use Rattle.rules.specs.Tree.{Tree, fresh}
 use Rattle.rules.specs.Refit.{refitted}
@@ -42,7 +42,7 @@ room_refusal needed n = unless (leb needed n) R.Room
 -- 3: the tree check fails
 unfoldable pub tree_refusal : Verdict → List Refusal
 tree_refusal (Ok tt) = []
-tree_refusal (Err condition) = R.Tree condition ∷ []
+tree_refusal (Err condition) = R.Tree (number_of_condition condition) ∷ []
 
 -- 4: one row whose length is not dim; a batch whose length is no multiple of dim
 unfoldable pub row_shape_refusal : ℕ → ℕ → List Refusal

@@ -12,7 +12,6 @@ use Rattle.head.specs.Sizes.{floats_needed, links_needed, scratch_floats_needed,
 use Rattle.head.specs.Refusals.{Answer, number_of_condition, number_of, values_of}
 use Rattle.head.specs.declared.Head.{Head}
 use Rattle.head.specs.declared.Settings.{Settings}
-use Rattle.head.specs.declared.refusal.Condition.{Condition}
 use Rattle.head.specs.declared.refusal.Refusal.{Refusal}
 use Rattle.head.specs.declared.refusal.Refusal.TheVariants as R
 use Rattle.rules.specs.Tree.{Tree}
@@ -22,14 +21,14 @@ use Rattle.rules.specs.RefusalLaws.{first_given}
 use Rattle.rules.specs.CallLaws.{settle_answer}
 
 -- document 01's numbers, and what each returns
-pub seven_numbers : (condition : Condition) (dim n : ℕ)
+pub seven_numbers : (condition dim n : ℕ)
     → map number_of (R.Settings ∷ R.Room ∷ R.Tree condition ∷ R.Shape dim n ∷ R.Empty ∷ R.Full ∷ R.Output ∷ []) ≡ 1 ∷ 2 ∷ 3 ∷ 4 ∷ 5 ∷ 6 ∷ 7 ∷ []
 unfolding number_of
 seven_numbers condition dim n = refl
 
-pub seven_values : (condition : Condition) (dim n : ℕ)
+pub seven_values : (condition dim n : ℕ)
     → map values_of (R.Settings ∷ R.Room ∷ R.Tree condition ∷ R.Shape dim n ∷ R.Empty ∷ R.Full ∷ R.Output ∷ [])
-    ≡ [] ∷ [] ∷ (number_of_condition condition ∷ []) ∷ (dim ∷ n ∷ []) ∷ [] ∷ [] ∷ [] ∷ []
+    ≡ [] ∷ [] ∷ (condition ∷ []) ∷ (dim ∷ n ∷ []) ∷ [] ∷ [] ∷ [] ∷ []
 unfolding values_of
 seven_values condition dim n = refl
 
@@ -42,7 +41,7 @@ test b r next = cond b next (Err r)
 -- the tree check's answer
 unfoldable pub tree_answer : Verdict → Answer
 tree_answer (Ok tt) = Ok tt
-tree_answer (Err condition) = Err (R.Tree condition)
+tree_answer (Err condition) = Err (R.Tree (number_of_condition condition))
 
 -- what refuses is given; where nothing does, what follows decides
 unfoldable pub before : Answer → Answer → Answer
